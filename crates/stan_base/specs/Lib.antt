@@ -1,0 +1,3 @@
+pub mod Keyword
+pub mod Name
+pub mod model

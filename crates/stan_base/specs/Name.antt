@@ -1,0 +1,7 @@
+-- What a name shows.
+use Rattle.std.specs.Prelude.{ℕ, List}
+use Rattle.stan_base.specs.declared.name.Name.{Name}
+
+-- the bytes of a name
+abbrev pub name_bytes : Name → List ℕ
+name_bytes name = name.bytes.items

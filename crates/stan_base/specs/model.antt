@@ -1,0 +1,8 @@
+-- What the product means. Each file holds one topic, and `docs/DEFINITIONS.md` lists them.
+pub mod Bytes
+pub mod Tokens
+pub mod Grammar
+pub mod Reading
+pub mod Table
+pub mod Faults
+pub mod Project

@@ -1,0 +1,16 @@
+//! Names, tokens and lines of PHP source, and the definitions that every other crate's contracts cite (`specs/model`).
+#![tactic(auto)]
+
+mod ask_kind;
+mod keyword;
+mod line;
+mod memory;
+mod name;
+mod token;
+
+pub use ask_kind::AskKind;
+pub use keyword::KEYWORDS;
+pub use line::line_at;
+pub use memory::OutOfMemory;
+pub use name::Name;
+pub use token::{Token, TokenKind};
