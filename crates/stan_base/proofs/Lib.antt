@@ -1,1 +1,7 @@
+pub mod GrammarLemmas
 pub mod KeywordLemmas
+pub mod LineLemmas
+pub mod Orders
+pub mod ReadingLemmas
+pub mod TokenLemmas
+pub mod SortLemmas

@@ -1,3 +1,4 @@
 pub mod Keyword
+pub mod Laws
 pub mod Name
 pub mod model

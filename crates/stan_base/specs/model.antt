@@ -1,5 +1,6 @@
 -- What the product means. Each file holds one topic, and `docs/DEFINITIONS.md` lists them.
 pub mod Bytes
+pub mod Names
 pub mod Tokens
 pub mod Grammar
 pub mod Reading

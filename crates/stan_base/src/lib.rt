@@ -3,13 +3,16 @@
 
 mod ask_kind;
 mod keyword;
+pub mod laws;
 mod line;
 mod memory;
 mod name;
+#[cfg(test)]
+mod tests;
 mod token;
 
 pub use ask_kind::AskKind;
-pub use keyword::KEYWORDS;
+pub use keyword::{KEYWORDS, word_kind};
 pub use line::line_at;
 pub use memory::OutOfMemory;
 pub use name::Name;

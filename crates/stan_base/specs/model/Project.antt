@@ -1,5 +1,5 @@
 -- The files of a folder that given paths choose, and the limits on them.
-use Rattle.std.specs.Prelude.{ℕ, ◌+◌, ◌==◌, ◌&&◌, ◌||◌, nat_lt, not, if◌then◌else◌, Bool, List, [], ◌∷◌, ◌++◌, Option, Some, None, map, filter, length, codes, take, nat_eq}
+use Rattle.std.specs.Prelude.{ℕ, ◌+◌, ◌==◌, ◌&&◌, ◌||◌, nat_lt, not, if◌then◌else◌, Bool, List, [], ◌∷◌, Option, Some, None, map, filter, length, codes, take, slice_index, nat_eq}
 use Rattle.std.specs.List.{starts_with, ends_with, list_any, slice_split, join_with_byte}
 use Rattle.std.specs.Ordering.{nat_cmp}
 use Rattle.std.specs.Cmp.Lexicographic.{slice_cmp}
@@ -19,9 +19,12 @@ parts_of path = slice_split (λ b. b == 47) path
 abbrev pub is_absolute : List ℕ → Bool
 is_absolute path = starts_with nat_eq path (codes "/")
 
+abbrev pub has_parent_part : List ℕ → Bool
+has_parent_part path = list_any (λ part. bytes_eq part (codes "..")) (parts_of path)
+
 -- a path that begins with `/` or has a part `..`
 abbrev pub leads_outside : List ℕ → Bool
-leads_outside path = is_absolute path || list_any (λ part. bytes_eq part (codes "..")) (parts_of path)
+leads_outside path = is_absolute path || has_parent_part path
 
 abbrev pub is_proper_part : List ℕ → Bool
 is_proper_part part = not (bytes_eq part []) && not (bytes_eq part (codes "."))
@@ -32,9 +35,9 @@ normal_path path = join_with_byte 47 (filter is_proper_part (parts_of path))
 
 -- ---- the choice of files
 
--- whether a file stands under a path in normal form
+-- whether a file stands under a path in normal form: its path begins with it, and `/` follows
 abbrev pub is_under : List ℕ → List ℕ → Bool
-is_under path file = bytes_eq path [] || starts_with nat_eq file (path ++ codes "/")
+is_under path file = (length path == 0) || (starts_with nat_eq file path && (slice_index file (length path) == 47))
 
 -- A path chooses the file of that name, and each file under it whose name ends in `.php`.
 abbrev pub chooses : List ℕ → List ℕ → Bool

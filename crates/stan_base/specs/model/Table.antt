@@ -1,10 +1,10 @@
 -- What files declare, and the answer to a look-up by name.
-use Rattle.std.specs.Prelude.{ℕ, ◌&&◌, Bool, true, false, List, [], ◌∷◌, ◌++◌, Option, position}
+use Rattle.std.specs.Prelude.{ℕ, Bool, false, List, [], ◌∷◌, ◌++◌, Option, position}
 use Rattle.std.specs.List.{flat_map}
 use Rattle.std.specs.Str.{bytes_eq}
 use Rattle.stan_base.specs.declared.ask_kind.AskKind.{AskKind}
 use Rattle.stan_base.specs.declared.ask_kind.AskKind.TheVariants as kinds
-use Rattle.stan_base.specs.model.Bytes.{fold_case}
+use Rattle.stan_base.specs.model.Names.{fold_name}
 use Rattle.stan_base.specs.model.Tokens.{spelling}
 use Rattle.stan_base.specs.model.Grammar.{Top, Function, Statement}
 use Rattle.stan_base.specs.model.Reading.{Reading, Readable, TooLarge, NotUtf8, Broken}
@@ -31,9 +31,9 @@ table_of [] readings = []
 table_of sources [] = []
 table_of (source ∷ sources) (reading ∷ readings) = exports_of source reading ++ table_of sources readings
 
--- whether a node is of this kind and has this name, which is compared without case
+-- whether a node is of this kind and has this name
 abbrev pub is_named : AskKind → List ℕ → Exported → Bool
-is_named kinds.Function name (FunctionNode other) = bytes_eq (fold_case other) (fold_case name)
+is_named kinds.Function name (FunctionNode other) = bytes_eq (fold_name kinds.Function other) (fold_name kinds.Function name)
 is_named kinds.Class name node = false
 is_named kinds.Constant name node = false
 

@@ -1,6 +1,5 @@
-use Rattle.std.proofs.Common.{◌≡◌, ◌∙◌, ap, sym, arith, true, false, [], Bor, List, ℕ}
+use Rattle.std.proofs.Common.{◌∙◌, ap, sym, arith, []}
 use Rattle.std.proofs.lemmas.Bool.{false≢true}
-use Rattle.stan_base.specs.declared.token.TokenKind.{TokenKind}
 use Rattle.stan_base.specs.declared.token.TokenKind.TheVariants.{End}
 use Rattle.stan_base.specs.model.Bytes.{fold_case}
 use Rattle.stan_base.proofs.KeywordLemmas.{kind_among-found, kind_among-passed}
@@ -14,5 +13,5 @@ returns-then-eq_ignore_ascii_case c =
 pub loop-keyword-preserved : goal.loop-keyword-preserved
 loop-keyword-preserved c =
     kind_among-passed c.args.rows.now c.args.word.now c.loop-keyword.keyword-index (record { ref_ptr = (0, 0); now = [] }, End) (omega arith)
-        (λ e. false≢true (sym c.if-eq_ignore_ascii_case.false ∙ c.eq_ignore_ascii_case.ensures.test.1 (e ∙ sym (ap fold_case c.as_bytes.ensures.value))))
+    (λ e. false≢true (sym c.if-eq_ignore_ascii_case.false ∙ c.eq_ignore_ascii_case.ensures.test.1 (e ∙ sym (ap fold_case c.as_bytes.ensures.value))))
     ∙ c.loop-keyword.invariant

@@ -1,0 +1,48 @@
+//! Laws of the definitions (`specs/model`): each is the contract of a function that does nothing.
+
+ghost use Rattle.stan_base.specs.Laws.{TokensAreDetermined, GrammarIsUnambiguous, OneReading, OneReadings, LinesDoNotFall, ChosenOnceInOrder, ChosenAreHeld, ChosenInAnyOrder, FaultsInAnyOrder};
+
+/// From any place on, a source has one list of tokens.
+pub fn tokens_are_determined()
+    ensures { TokensAreDetermined }
+{}
+
+/// Tokens spell one list of tops.
+pub fn grammar_is_unambiguous()
+    ensures { GrammarIsUnambiguous }
+{}
+
+/// A file has one reading.
+pub fn one_reading()
+    ensures { OneReading }
+{}
+
+/// Files have one list of readings.
+pub fn one_readings()
+    ensures { OneReadings }
+{}
+
+/// A byte stands on no earlier line than a byte before it.
+pub fn lines_do_not_fall()
+    ensures { LinesDoNotFall }
+{}
+
+/// Each chosen path stands once, in byte order.
+pub fn chosen_once_in_order()
+    ensures { ChosenOnceInOrder }
+{}
+
+/// The chosen paths are those that the folder holds and that a given path chooses.
+pub fn chosen_are_held()
+    ensures { ChosenAreHeld }
+{}
+
+/// The order in which paths are given, and that one is given twice, changes nothing.
+pub fn chosen_in_any_order()
+    ensures { ChosenInAnyOrder }
+{}
+
+/// The order in which faults are found, and that one is found twice, changes nothing.
+pub fn faults_in_any_order()
+    ensures { FaultsInAnyOrder }
+{}
