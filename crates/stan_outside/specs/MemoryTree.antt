@@ -1,0 +1,11 @@
+-- What a tree in memory shows.
+use Rattle.stan_base.specs.model.Project.{Contents}
+use Rattle.stan_outside.specs.declared.calls.Calls.{Calls}
+use Rattle.stan_outside.specs.declared.memory_tree.MemoryTree.{MemoryTree}
+use Rattle.stan_outside.specs.Memory.{tree_contents}
+
+abbrev pub memory_contents : MemoryTree → Contents
+memory_contents tree = tree_contents tree.files.items
+
+abbrev pub tree_calls : MemoryTree → Calls
+tree_calls tree = tree.calls

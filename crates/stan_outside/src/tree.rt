@@ -1,0 +1,47 @@
+//! A folder of files.
+
+ghost use Rattle.std.specs.Prelude.{◌≡◌, ◌≤◌, ◌↔◌, ℕ, IfOk, IfSome, IsSome, IsErrOf, map, take, string_bytes, vec_len};
+ghost use Rattle.std.specs.FinMap as finite;
+ghost use Rattle.stan_base.specs.model.Project.{Contents};
+ghost use Rattle.stan_outside.specs.Outside.{Lists, Rose, ArePaths};
+ghost use Rattle.stan_outside.specs.declared.fail.Fail.TheVariants as fails;
+
+use crate::Fail;
+use std::alloc::Global;
+
+pub trait Tree {
+    /// Whether it tells what it holds.
+    ghost tells: { Self → Type 0 };
+
+    /// What it holds, where it tells. No call changes it.
+    ghost contents: { Self → Contents };
+
+    /// How often the system has failed. It never falls.
+    ghost faults: { Self → ℕ };
+
+    /// No call fails, now and later.
+    ghost never_fails: { Self → Type 0 };
+
+    /// The path of each file once, in any order, relative to the folder. Links are not followed.
+    fn list(&mut self, alloc: Global) -> Result<Vec<String>, Fail>
+        ensures paths { IfOk result (λ paths. tells self.old → Lists (contents self.old) (map string_bytes paths.items)) }
+        ensures tells { tells self.old ↔ tells self.new }
+        ensures contents { contents self.new ≡ contents self.old }
+        ensures faults { faults self.old ≤ faults self.new }
+        ensures failed { IsErrOf result fails.Failed → Rose (faults self.old) (faults self.new) }
+        ensures never_fails { never_fails self.old → (faults self.new ≡ faults self.old) × never_fails self.new × ¬ (IsErrOf result fails.Failed) };
+
+    /// The first `most` bytes of the file at a path. A file that is gone is a failure of the system.
+    fn read(&mut self, alloc: Global, path: &str, most: u32) -> Result<Vec<u8>, Fail>
+        requires { tells self.old → IsSome (finite.get (contents self.old) path.now) }
+        ensures bytes { IfOk result (λ bytes. tells self.old → IfSome (finite.get (contents self.old) path.now) (λ all. bytes.items ≡ take most all)) }
+        ensures most { IfOk result (λ bytes. vec_len bytes ≤ most) }
+        ensures tells { tells self.old ↔ tells self.new }
+        ensures contents { contents self.new ≡ contents self.old }
+        ensures faults { faults self.old ≤ faults self.new }
+        ensures failed { IsErrOf result fails.Failed → Rose (faults self.old) (faults self.new) }
+        ensures never_fails { never_fails self.old → (faults self.new ≡ faults self.old) × never_fails self.new × ¬ (IsErrOf result fails.Failed) };
+
+    /// Where it tells, no part of a path is empty, `.` or `..`.
+    ghost proper: { (tree : Self) → tells tree → ArePaths (contents tree) };
+}
