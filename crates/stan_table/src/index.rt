@@ -1,0 +1,73 @@
+//! The index of all declared nodes, and the answer to an ask.
+
+ghost use Rattle.std.specs.Prelude.{◌≡◌, ◌<◌, ◌^◌, IfOk, map, length, Some, slice_get, vec_len};
+ghost use Rattle.stan_base.specs.Name.{name_bytes};
+ghost use Rattle.stan_base.specs.model.Table.{answer_of};
+ghost use Rattle.stan_table.specs.Table.{node_of};
+ghost use Rattle.stan_table.specs.Places.{AnswerFunctions};
+
+use crate::{Ask, Exported};
+use stan_base::{AskKind, OutOfMemory};
+use std::alloc::Global;
+use std::collections::BTreeMap;
+
+/// The nodes of all files in the order of the files (`index_table`), with the first place of each name. There are fewer
+/// than 2^32.
+#[derive(Drop)]
+pub struct Index {
+    nodes: Vec<Exported>,
+    functions: BTreeMap<Vec<u8>, u32>,
+    ghost few: { vec_len nodes < 2 ^ 32 },
+    ghost answers: { AnswerFunctions functions (map node_of nodes.items) },
+}
+
+impl Index {
+    ghost use Rattle.stan_table.specs.Index.{index_table};
+
+    pub fn build(alloc: Global, nodes: Vec<Exported>) -> Result<Index, OutOfMemory>
+        requires { vec_len nodes < 2 ^ 32 }
+        ensures { IfOk result (λ index. index_table index ≡ map node_of nodes.items) }
+    {
+        let functions = first_places(alloc, nodes.as_slice())?;
+        Ok(Index { nodes, functions })
+    }
+
+    /// The place of the first node of that kind and name.
+    pub fn find(&self, ask: &Ask) -> Option<u32>
+        ensures { result ≡ answer_of (index_table self.now) ask.now.kind (name_bytes ask.now.name) }
+    {
+        match ask.kind {
+            AskKind::Function => self.functions.get(ask.name.bytes()).copied(),
+            AskKind::Class | AskKind::Constant => None,
+        }
+    }
+
+    /// How many nodes.
+    pub fn len(&self) -> u32
+        ensures { result ≡ length (index_table self.now) }
+    {
+        self.nodes.len() as u32
+    }
+
+    pub fn node(&self, place: u32) -> &Exported
+        requires { place < length (index_table self.now) }
+        ensures { slice_get (index_table self.now) place ≡ Some (node_of result.now) }
+    {
+        &self.nodes[place as usize]
+    }
+}
+
+// The place of the first function of each folded name.
+fn first_places(alloc: Global, nodes: &[Exported]) -> Result<BTreeMap<Vec<u8>, u32>, OutOfMemory>
+    requires { length nodes.now < 2 ^ 32 }
+    ensures { IfOk result (λ places. AnswerFunctions places (map node_of nodes.now)) }
+{
+    let mut places = BTreeMap::new(alloc);
+    for (place, node) in nodes.iter().enumerate() {
+        let folded = node.name().bytes().to_ascii_lowercase(alloc)?;
+        if !places.contains_key(folded.as_slice()) {
+            places.insert(folded, place as u32)?;
+        }
+    }
+    Ok(places)
+}
