@@ -1,0 +1,13 @@
+-- The faults of calls, in the order in which the calls stand.
+use Rattle.std.specs.Prelude.{ℕ, if◌then◌else◌, List, Option, Some, None, map, filter, is_none}
+use Rattle.stan_base.specs.declared.ask_kind.AskKind.TheVariants as kinds
+use Rattle.stan_base.specs.model.Grammar.{Call}
+use Rattle.stan_base.specs.model.Table.{Exported, answer_of}
+use Rattle.stan_base.specs.model.Faults.{Fault, CallFact, fact_of_call, function_not_found}
+
+-- the fault of a call, if the table lacks its function
+abbrev pub fact_fault : List Exported → CallFact → Option Fault
+fact_fault table fact = if is_none (answer_of table kinds.Function fact.name) then Some (function_not_found fact) else None
+
+abbrev pub call_faults : List Exported → List ℕ → List Call → List Fault
+call_faults table source calls = map function_not_found (filter (λ fact. is_none (answer_of table kinds.Function fact.name)) (map (fact_of_call source) calls))
