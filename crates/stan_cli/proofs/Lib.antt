@@ -1,0 +1,7 @@
+pub mod ChoiceLemmas
+pub mod ListLemmas
+pub mod ProjectLemmas
+pub mod ReportLemmas
+pub mod RunLemmas
+pub mod SourceLemmas
+pub mod WritingLemmas

@@ -1,0 +1,91 @@
+use Rattle.std.proofs.Common.{◌≡◌, ◌≤◌, ◌∙◌, sym, ap, subst, map, length, string_bytes, None, take, ◌++◌}
+use Rattle.std.specs.List.{zip}
+use Rattle.std.proofs.lemmas.Bool.{false≢true}
+use Rattle.std.proofs.lemmas.Result.{err_from_is_err_and}
+use Rattle.stan_base.specs.model.Project.{chosen_files}
+use Rattle.stan_cli.specs.Sources.{source_bytes}
+use Rattle.stan_cli.specs.Words.{refused_part}
+use Rattle.stan_cli.specs.Report.{IsReport}
+use Rattle.stan_cli.specs.Run.{files_of, IsProjectRefusal}
+use Rattle.stan_cli.proofs.RunLemmas.{comes-project, rest-map, keeps_limits, length-files, one_report}
+use Rattle.stan_cli.proofs.run.attempt.Goals as goal
+
+pub returns-in_err-project-clause-comes : goal.returns-in_err-project-clause-comes
+returns-in_err-project-clause-comes g c =
+    let p = err_from_is_err_and c.from_residual.result c.from_residual.ensures.1 in
+    let words = map string_bytes c.args.words.now in
+    let contents = g.T.Tree.contents c.args.tree.now in
+    let none : refused_part words ≡ None = sym c.refused_part.ensures ∙ c.in_default.is in
+    let refused = subst (λ ps. IsProjectRefusal (g.T.Tree.never_fails c.args.tree.now) (g.T.Tree.faults c.args.tree.now) (g.T.Tree.faults c.read_project.new.tree) (g.T.Tree.tells c.args.tree.now) (chosen_files ps contents) c.in_err-project.field-0.0)
+    (rest-map string_bytes c.args.words.now) c.in_err-project.ensures.refused in
+    rw (p.1, p.2) (comes-project words (g.T.Tree.tells c.args.tree.now) contents (g.T.Tree.faults c.args.tree.now) (g.T.Tree.faults c.read_project.new.tree) (g.T.Tree.never_fails c.args.tree.now)
+    (g.K.Sink.tells c.args.sink.now) (g.K.Sink.written c.args.sink.now) (g.K.Sink.faults c.args.sink.now) c.in_err-project.field-0.0 none refused)
+
+pub returns-in_err-write_text-clause-comes : goal.returns-in_err-write_text-clause-comes
+returns-in_err-write_text-clause-comes g c =
+    let p = err_from_is_err_and c.from_residual-in_err-write_text.result c.from_residual-in_err-write_text.ensures.1 in
+    let words = map string_bytes c.args.words.now in
+    let contents = g.T.Tree.contents c.args.tree.now in
+    let files = files_of words contents in
+    let none : refused_part words ≡ None = sym c.refused_part.ensures ∙ c.in_default.is in
+    let project = c.in_ok-project.ensures in
+    let written = c.in_err-write_text.ensures in
+    rw (p.1, p.2) (
+      none,
+      written.failed,
+      λ told.
+          let zipped : zip (map string_bytes c.in_ok-project.project.paths.items) (map source_bytes c.in_ok-project.project.sources.items) ≡ files = project.files told ∙ ap (λ ps. chosen_files ps contents) (rest-map string_bytes c.args.words.now) in
+          let report : IsReport files (string_bytes c.in_ok-report.report.text) c.in_ok-report.report.status =
+          subst (λ those. IsReport those (string_bytes c.in_ok-report.report.text) c.in_ok-report.report.status)
+          ((λ i. zip (map string_bytes (c.deref.ensures.value i)) (map source_bytes (c.deref-2.ensures.value i))) ∙ zipped) c.in_ok-report.ensures in (
+            keeps_limits files string_bytes source_bytes _ _ zipped project.few project.each project.within,
+            λ sink_told.
+                let front = written.front sink_told in
+                record { text = string_bytes c.in_ok-report.report.text; status = c.in_ok-report.report.status; report = report; count = front.0; added = front.2 ∙ ap (λ text. g.K.Sink.written c.args.sink.now ++ take front.0 text) c.as_bytes.ensures.value },
+          ),
+    )
+
+pub returns-in_err-write_text-clause-room : goal.returns-in_err-write_text-clause-room
+returns-in_err-write_text-clause-room g c told text status report room =
+    let words = map string_bytes c.args.words.now in
+    let contents = g.T.Tree.contents c.args.tree.now in
+    let files = files_of words contents in
+    let project = c.in_ok-project.ensures in
+    let zipped : zip (map string_bytes c.in_ok-project.project.paths.items) (map source_bytes c.in_ok-project.project.sources.items) ≡ files = project.files told ∙ ap (λ ps. chosen_files ps contents) (rest-map string_bytes c.args.words.now) in
+    let own : IsReport files (string_bytes c.in_ok-report.report.text) c.in_ok-report.report.status =
+    subst (λ those. IsReport those (string_bytes c.in_ok-report.report.text) c.in_ok-report.report.status)
+    ((λ i. zip (map string_bytes (c.deref.ensures.value i)) (map source_bytes (c.deref-2.ensures.value i))) ∙ zipped) c.in_ok-report.ensures in
+    let fits : length c.as_bytes.result.now ≤ g.K.Sink.room c.args.sink.now = subst (λ those. length those ≤ g.K.Sink.room c.args.sink.now) (one_report files text _ status _ report own ∙ sym c.as_bytes.ensures.value) room in
+    absurd (false≢true (c.in_err-write_text.ensures.room fits).0)
+
+pub returns-clause-comes : goal.returns-clause-comes
+returns-clause-comes g c =
+    let words = map string_bytes c.args.words.now in
+    let contents = g.T.Tree.contents c.args.tree.now in
+    let files = files_of words contents in
+    let none : refused_part words ≡ None = sym c.refused_part.ensures ∙ c.in_default.is in
+    let project = c.in_ok-project.ensures in (
+      none,
+      λ told.
+          let zipped : zip (map string_bytes c.in_ok-project.project.paths.items) (map source_bytes c.in_ok-project.project.sources.items) ≡ files = project.files told ∙ ap (λ ps. chosen_files ps contents) (rest-map string_bytes c.args.words.now) in
+          let report : IsReport files (string_bytes c.in_ok-report.report.text) c.in_ok-report.report.status =
+          subst (λ those. IsReport those (string_bytes c.in_ok-report.report.text) c.in_ok-report.report.status)
+          ((λ i. zip (map string_bytes (c.deref.ensures.value i)) (map source_bytes (c.deref-2.ensures.value i))) ∙ zipped) c.in_ok-report.ensures in (
+            ap length c.as_slice.ensures.value ∙ length-files files string_bytes source_bytes _ _ zipped project.few project.each,
+            keeps_limits files string_bytes source_bytes _ _ zipped project.few project.each project.within,
+            (string_bytes c.in_ok-report.report.text, report, λ sink_told. c.in_ok-write_text.ensures.written sink_told ∙ ap (λ text. g.K.Sink.written c.args.sink.now ++ text) c.as_bytes.ensures.value),
+          ),
+    )
+
+pub returns-clause-room : goal.returns-clause-room
+returns-clause-room g c told text status report room =
+    let words = map string_bytes c.args.words.now in
+    let contents = g.T.Tree.contents c.args.tree.now in
+    let files = files_of words contents in
+    let project = c.in_ok-project.ensures in
+    let zipped : zip (map string_bytes c.in_ok-project.project.paths.items) (map source_bytes c.in_ok-project.project.sources.items) ≡ files = project.files told ∙ ap (λ ps. chosen_files ps contents) (rest-map string_bytes c.args.words.now) in
+    let own : IsReport files (string_bytes c.in_ok-report.report.text) c.in_ok-report.report.status =
+    subst (λ those. IsReport those (string_bytes c.in_ok-report.report.text) c.in_ok-report.report.status)
+    ((λ i. zip (map string_bytes (c.deref.ensures.value i)) (map source_bytes (c.deref-2.ensures.value i))) ∙ zipped) c.in_ok-report.ensures in
+    let fits : length c.as_bytes.result.now ≤ g.K.Sink.room c.args.sink.now = subst (λ those. length those ≤ g.K.Sink.room c.args.sink.now) (one_report files text _ status _ report own ∙ sym c.as_bytes.ensures.value) room in
+    ((c.in_ok-write_text.ensures.room fits).1, λ e. cc)

@@ -1,0 +1,9 @@
+pub mod Choice
+pub mod Files
+pub mod Raw
+pub mod Refusal
+pub mod Report
+pub mod Run
+pub mod Sources
+pub mod Tally
+pub mod Words
