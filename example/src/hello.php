@@ -1,0 +1,9 @@
+<?php
+
+function greet() {
+    say();
+    Log_line();
+}
+
+greet();
+farewell();

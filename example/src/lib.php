@@ -1,0 +1,7 @@
+<?php
+
+function say() {
+}
+
+function LOG_LINE() {
+}
