@@ -1,0 +1,122 @@
+//! A case is played: a run over a folder and a sink in memory, and what of it is not as the case wants it.
+
+use crate::case::{Case, Files, Place, Wanted};
+use stan_base::OutOfMemory;
+use stan_cli::{Outcome, Tally, run_alone};
+use stan_outside::{MemorySink, MemoryTree, are_files};
+use std::alloc::{AllocError, Global};
+
+/// What is wrong with a run, as one line of text, which is empty where nothing is.
+pub fn what_is_wrong(alloc: Global, case: Case) -> Result<String, OutOfMemory> {
+    let files = single_files(alloc, &case.files)?;
+    if !are_files(&files) {
+        return Ok(String::from_str(
+            alloc,
+            "its files are not in byte order of proper paths, each once",
+        )?);
+    }
+    let mut tree = MemoryTree::new(files, case.tree_fails);
+    let form = case.sink;
+    let mut sink = MemorySink::new(alloc, form.room, form.piece, form.fails)?;
+    let outcome = run_alone(alloc, &case.words, &mut tree, &mut sink);
+    differences(alloc, &case.wanted, &outcome, &tree, &sink)
+}
+
+// Each file by itself, as a tree takes them.
+fn single_files(alloc: Global, all: &[Files]) -> Result<Vec<(String, Vec<u8>)>, OutOfMemory> {
+    let mut single = Vec::new(alloc);
+    for files in all {
+        match &files.place {
+            Place::At(path) => single.push((path.clone()?, files.bytes.clone()?))?,
+            Place::Numbered(number) => push_numbered(alloc, &mut single, *number, &files.bytes)?,
+        }
+    }
+    Ok(single)
+}
+
+fn push_numbered(
+    alloc: Global,
+    single: &mut Vec<(String, Vec<u8>)>,
+    number: u64,
+    bytes: &Vec<u8>,
+) -> Result<(), OutOfMemory> {
+    for place in 0..number {
+        single.push((format!(in alloc; "{place:05}.php")?, bytes.clone()?))?;
+    }
+    Ok(())
+}
+
+fn differences(
+    alloc: Global,
+    wanted: &Wanted,
+    outcome: &Outcome,
+    tree: &MemoryTree,
+    sink: &MemorySink,
+) -> Result<String, OutOfMemory> {
+    let mut wrong = String::new(alloc);
+    let status = outcome.status.to_string(alloc)?;
+    compare(&mut wrong, "status", &status, &wanted.status)?;
+    compare(
+        &mut wrong,
+        "tally",
+        &tally_text(alloc, outcome.tally)?,
+        &wanted.tally,
+    )?;
+    compare(
+        &mut wrong,
+        "about",
+        &outcome.to_string(alloc)?,
+        &wanted.about,
+    )?;
+    let came = sink.bytes().escape_ascii().to_string(alloc)?;
+    let output = wanted.output.as_slice().escape_ascii().to_string(alloc)?;
+    compare(&mut wrong, "output", &came, &output)?;
+    compare_told(
+        alloc,
+        &mut wrong,
+        "tree-faults",
+        tree.faults(),
+        &wanted.tree_faults,
+    )?;
+    compare_told(
+        alloc,
+        &mut wrong,
+        "sink-faults",
+        sink.faults(),
+        &wanted.sink_faults,
+    )?;
+    Ok(wrong)
+}
+
+fn tally_text(alloc: Global, tally: Tally) -> Result<String, AllocError> {
+    let Tally {
+        files,
+        reused,
+        analysed,
+    } = tally;
+    format!(in alloc; "{files} {reused} {analysed}")
+}
+
+// Where nothing is wanted each number is right.
+fn compare_told(
+    alloc: Global,
+    wrong: &mut String,
+    what: &str,
+    came: u64,
+    wanted: &Option<String>,
+) -> Result<(), AllocError> {
+    match wanted {
+        Some(wanted) => compare(wrong, what, &came.to_string(alloc)?, wanted),
+        None => Ok(()),
+    }
+}
+
+fn compare(wrong: &mut String, what: &str, came: &str, wanted: &str) -> Result<(), AllocError> {
+    if came == wanted {
+        return Ok(());
+    }
+    if !wrong.is_empty() {
+        wrong.push_str("; ")?;
+    }
+    write!(wrong, "{what} {came}, wanted {wanted}")
+}
