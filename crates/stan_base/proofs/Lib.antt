@@ -2,6 +2,10 @@ pub mod GrammarLemmas
 pub mod KeywordLemmas
 pub mod LineLemmas
 pub mod Orders
+pub mod PhpMarkLemmas
+pub mod PhpOrderLemmas
+pub mod PhpRunLemmas
+pub mod PhpTokenLemmas
 pub mod ReadingLemmas
 pub mod TokenLemmas
 pub mod SortLemmas

@@ -1,12 +1,17 @@
 -- What holds of the definitions at every source, folder and list: each is the contract of a function of the module `laws`.
-use Rattle.std.specs.Prelude.{◌≡◌, ℕ, ◌≤◌, ◌↔◌, IsTrue, IsSome, List, map}
-use Rattle.std.specs.List.{Contains}
+use Rattle.std.specs.Prelude.{◌≡◌, ℕ, ◌≤◌, ◌↔◌, IsTrue, IsSome, Bool, List, length, map, ◌+◌, drop, nat_eq}
+use Rattle.std.specs.List.{All, AllPairs, Contains, starts_with}
 use Rattle.std.specs.List.Sorted.{IsStrictlySortedBy}
 use Rattle.std.specs.Ordering.{nat_cmp}
 use Rattle.std.specs.Cmp.Lexicographic.{slice_cmp}
 use Rattle.std.specs.FinMap as finite
 use Rattle.stan_base.specs.declared.token.Token.{Token}
+use Rattle.stan_base.specs.declared.php.Token as php
+use Rattle.stan_base.specs.declared.php.TokenKind as kind
 use Rattle.stan_base.specs.model.Bytes.{line_of}
+use Rattle.stan_base.specs.model.PhpBytes.{run_end, IsRun}
+use Rattle.stan_base.specs.model.PhpMarks as PhpMarks
+use Rattle.stan_base.specs.model.PhpTokens as PhpTokens
 use Rattle.stan_base.specs.model.Tokens.{AreTokens}
 use Rattle.stan_base.specs.model.Grammar.{Top, SpellsFile}
 use Rattle.stan_base.specs.model.Reading.{Reading, IsReading, AreReadings}
@@ -16,6 +21,22 @@ use Rattle.stan_base.specs.model.Project.{Contents, normal_path, is_chosen, chos
 -- From any place on, a source has one list of tokens.
 abbrev pub TokensAreDetermined : Type 0
 TokensAreDetermined = (source : List ℕ) (at : ℕ) (ts us : List Token) → AreTokens source at ts → AreTokens source at us → ts ≡ us
+
+-- A source has one list of tokens.
+abbrev pub OnePhpTokenList : Type 0
+OnePhpTokenList = (source : List ℕ) (ts us : List php.Token) → PhpTokens.AreTokens source ts → PhpTokens.AreTokens source us → ts ≡ us
+
+-- Each token of a source stands within it, and ends before the later ones begin.
+abbrev pub PhpTokensStandInOrder : Type 0
+PhpTokensStandInOrder = (source : List ℕ) (ts : List php.Token) → PhpTokens.AreTokens source ts → All (λ t. (t.start ≤ t.end) × (t.end ≤ length source)) ts × AllPairs (λ t u. t.end ≤ u.start) ts
+
+-- No mark of the table that stands at a place is longer than the one that is read there.
+abbrev pub LongestMarkIsRead : Type 0
+LongestMarkIsRead = (source : List ℕ) (at : ℕ) (row : List ℕ × kind.TokenKind) → Contains PhpMarks.marks row → IsTrue (starts_with nat_eq (drop at source) row.0) → at + length row.0 ≤ (PhpMarks.mark source at).1
+
+-- A run goes on while its places pass, and ends at the first one that fails, or at the end of the source.
+abbrev pub RunsEndWhereTheTestFails : Type 0
+RunsEndWhereTheTestFails = (source : List ℕ) (test : ℕ → Bool) (at : ℕ) → at ≤ length source → IsRun source test at (run_end source test at)
 
 -- Tokens spell one list of tops.
 abbrev pub GrammarIsUnambiguous : Type 0

@@ -1,10 +1,30 @@
 //! Laws of the definitions (`specs/model`): each is the contract of a function that does nothing.
 
-ghost use Rattle.stan_base.specs.Laws.{TokensAreDetermined, GrammarIsUnambiguous, OneReading, OneReadings, LinesDoNotFall, ChosenOnceInOrder, ChosenAreHeld, ChosenInAnyOrder, FaultsInAnyOrder};
+ghost use Rattle.stan_base.specs.Laws.{TokensAreDetermined, OnePhpTokenList, PhpTokensStandInOrder, LongestMarkIsRead, RunsEndWhereTheTestFails, GrammarIsUnambiguous, OneReading, OneReadings, LinesDoNotFall, ChosenOnceInOrder, ChosenAreHeld, ChosenInAnyOrder, FaultsInAnyOrder};
 
 /// From any place on, a source has one list of tokens.
 pub fn tokens_are_determined()
     ensures { TokensAreDetermined }
+{}
+
+/// A source has one list of tokens.
+pub fn one_php_token_list()
+    ensures { OnePhpTokenList }
+{}
+
+/// Each token of a source stands within it, and ends before the later ones begin.
+pub fn php_tokens_stand_in_order()
+    ensures { PhpTokensStandInOrder }
+{}
+
+/// No mark of the table that stands at a place is longer than the one that is read there.
+pub fn longest_mark_is_read()
+    ensures { LongestMarkIsRead }
+{}
+
+/// A run goes on while its places pass, and ends at the first one that fails, or at the end of the source.
+pub fn runs_end_where_the_test_fails()
+    ensures { RunsEndWhereTheTestFails }
 {}
 
 /// Tokens spell one list of tops.
