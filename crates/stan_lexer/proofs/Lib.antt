@@ -1,0 +1,9 @@
+pub mod RunLemmas
+pub mod TableLemmas
+pub mod NumberLemmas
+pub mod QuoteLemmas
+pub mod HeredocLemmas
+pub mod KindLemmas
+pub mod LexemeLemmas
+pub mod CutLemmas
+pub mod ValueLemmas

@@ -1,0 +1,64 @@
+-- The step of a search in a table of words.
+use Rattle.std.proofs.Common.{◌≡◌, ℕ, ◌+◌, ◌<◌, List, [], ◌∷◌, map, length, drop, get_or, Bool, true, false, cond, refl, add-one, drop-cons, arith}
+use Rattle.std.specs.Prelude.{nat_eq, nat_lt, ◌&&◌}
+use Rattle.std.specs.List.{starts_with, list_all}
+use Rattle.std.proofs.lemmas.Bool.{false≢true}
+use borrow.Author.Tests.{ltb-true}
+use Rattle.stan_base.specs.model.PhpMarks.{mark_among, mark, marks}
+use Rattle.std.specs.Str.{bytes_eq}
+use Rattle.std.specs.Cmp.Lexicographic.{bytes_decides}
+use Rattle.std.specs.Borrow.{Bor}
+use Rattle.stan_base.specs.declared.php.TokenKind.{TokenKind}
+use Rattle.stan_lexer.specs.Tables.{row_of}
+use Rattle.stan_base.specs.model.Bytes.{fold_case}
+use Rattle.stan_base.specs.model.PhpWords.{kind_among}
+
+not_true : (b : Bool) → (b ≡ true → ⊥) → b ≡ false
+not_true true h = absurd (h refl)
+not_true false h = refl
+
+module _ (rows : List (Bor (List ℕ) × TokenKind)) (word : List ℕ) (i : ℕ) (d : Bor (List ℕ) × TokenKind) (lt : i < length rows) where
+  -- the row at the place is the first of those that are left
+  pub kind_among-drop : kind_among (map row_of (drop i rows)) word ≡ cond (bytes_eq (fold_case word) (fold_case (get_or rows i d).0.now)) (get_or rows i d).1 (kind_among (map row_of (drop (i + 1) rows)) word)
+  kind_among-drop = rw (drop-cons rows i d, add-one i) refl
+
+  pub kind_among-found : fold_case word ≡ fold_case (get_or rows i d).0.now → (get_or rows i d).1 ≡ kind_among (map row_of (drop i rows)) word
+  kind_among-found e = rw (kind_among-drop, (bytes_decides (fold_case word) (fold_case (get_or rows i d).0.now)).1 e) refl
+
+  pub kind_among-passed : (fold_case word ≡ fold_case (get_or rows i d).0.now → ⊥) → kind_among (map row_of (drop (i + 1) rows)) word ≡ kind_among (map row_of (drop i rows)) word
+  kind_among-passed n = rw (kind_among-drop, not_true _ (λ e. n ((bytes_decides (fold_case word) (fold_case (get_or rows i d).0.now)).0 e))) refl
+
+module _ (rows : List (Bor (List ℕ) × TokenKind)) (source : List ℕ) (at i : ℕ) (d : Bor (List ℕ) × TokenKind) (lt : i < length rows) where
+  -- the row at the place is the first of those that are left
+  mark_among_drop : mark_among (map row_of (drop i rows)) source at
+      ≡ cond (starts_with nat_eq (drop at source) (get_or rows i d).0.now) ((get_or rows i d).1, at + length (get_or rows i d).0.now) (mark_among (map row_of (drop (i + 1) rows)) source at)
+  mark_among_drop = rw (drop-cons rows i d, add-one i) refl
+
+  pub mark_among_found : starts_with nat_eq (drop at source) (get_or rows i d).0.now ≡ true → ((get_or rows i d).1, at + length (get_or rows i d).0.now) ≡ mark_among (map row_of (drop i rows)) source at
+  mark_among_found e = rw (mark_among_drop, e) refl
+
+  pub mark_among_passed : starts_with nat_eq (drop at source) (get_or rows i d).0.now ≡ false → mark_among (map row_of (drop (i + 1) rows)) source at ≡ mark_among (map row_of (drop i rows)) source at
+  mark_among_passed e = rw (mark_among_drop, e) refl
+
+abbrev is_some_mark : List ℕ × TokenKind → Bool
+is_some_mark row = nat_lt 0 (length row.0)
+
+first_true : (a b : Bool) → (a && b) ≡ true → a ≡ true
+first_true true b e = refl
+first_true false b e = e
+
+second_true : (a b : Bool) → (a && b) ≡ true → b ≡ true
+second_true true b e = e
+second_true false b e = absurd (false≢true e)
+
+-- A mark of a table whose rows are not empty ends behind its place.
+mark_among_rises : (rows : List (List ℕ × TokenKind)) (source : List ℕ) (at : ℕ) → list_all is_some_mark rows ≡ true → at < (mark_among rows source at).1
+mark_among_rises [] source at h = omega arith
+mark_among_rises (row ∷ rows) source at h =
+    let some : 0 < length row.0 = ltb-true 0 (length row.0) (first_true (is_some_mark row) (list_all is_some_mark rows) h) in
+    let rest : at < (mark_among rows source at).1 = mark_among_rises rows source at (second_true (is_some_mark row) (list_all is_some_mark rows) h) in
+    elim (starts_with nat_eq (drop at source) row.0) as (λ b. at < (cond b (row.1, at + length row.0) (mark_among rows source at)).1) [ true ↦ omega arith | false ↦ rest ]
+
+pub mark_rises : (source : List ℕ) (at : ℕ) → at < (mark source at).1
+unfolding mark marks
+mark_rises source at = mark_among_rises marks source at refl

@@ -1,0 +1,9 @@
+-- Lexemes that are being joined.
+use Rattle.std.specs.Prelude.{List, ◌++◌}
+use Rattle.stan_base.specs.declared.php.Token.{Token}
+use Rattle.stan_base.specs.model.PhpTokens.{joined}
+use Rattle.stan_lexer.specs.declared.joined.Joiner.{Joiner}
+
+-- the tokens that a joiner has when the rest is joined too
+abbrev pub joined_behind : Joiner → List Token → List Token
+joined_behind joiner rest = joiner.tokens.items ++ joined joiner.before joiner.attribute rest

@@ -1,0 +1,4 @@
+pub mod Joined
+pub mod Quotes
+pub mod Runs
+pub mod Tables

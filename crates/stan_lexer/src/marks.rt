@@ -1,0 +1,134 @@
+//! Comments, casts, the last `?>`, operators and marks.
+
+ghost use Rattle.std.specs.Prelude.{◌≡◌, ◌≤◌, ◌<◌, ◌^◌, length, map, IsTrue};
+ghost use Rattle.stan_base.specs.model.PhpMarks.{begins_remark, remark, begins_comment, comment, is_identifier, parenthesis, begins_closing, closing, mark_among, mark};
+ghost use Rattle.stan_lexer.specs.Tables.{row_of};
+
+use crate::bytes::{byte_at, is_blank};
+use crate::runs::{Run, run_end};
+use crate::words::kind_among;
+use stan_base::php::{CASTS, MARKS, TokenKind};
+
+pub fn begins_remark(source: &[u8], at: usize) -> bool
+    requires { at < 2 ^ 63 }
+    ensures { result ≡ begins_remark source.now at }
+{
+    let byte = byte_at(source, at);
+    let next = byte_at(source, at + 1);
+    (byte == b'#' && next != b'[') || (byte == b'/' && next == b'/')
+}
+
+/// The comment at a place, up to its line's end or to `?>`, by its kind and its end.
+#[tactic(auto, unfolding(stan_base::specs::model::PhpMarks::remark))]
+pub fn remark(source: &[u8], at: usize) -> (TokenKind, usize)
+    requires { at < length source.now }
+    ensures value { result ≡ remark source.now at }
+    ensures rises { at < result.1 }
+    ensures within { result.1 ≤ length source.now }
+{
+    (TokenKind::Comment, run_end(source, Run::Remark, at + 1))
+}
+
+pub fn begins_comment(source: &[u8], at: usize) -> bool
+    requires { at < 2 ^ 63 }
+    ensures { result ≡ begins_comment source.now at }
+{
+    byte_at(source, at) == b'/' && byte_at(source, at + 1) == b'*'
+}
+
+/// The comment at a place, up to its `*/`, by its kind and its end. Without an end it is `Bad`.
+#[tactic(auto, unfolding(stan_base::specs::model::PhpMarks::comment))]
+pub fn comment(source: &[u8], at: usize) -> (TokenKind, usize)
+    requires { at < length source.now }
+    ensures value { result ≡ comment source.now at }
+    ensures rises { at < result.1 }
+    ensures within { result.1 ≤ length source.now }
+{
+    let to = run_end(source, Run::Comment, at + 2);
+    if !(byte_at(source, to) == b'*' && byte_at(source, to + 1) == b'/') {
+        return (TokenKind::Bad, at + 1);
+    }
+    if byte_at(source, at + 2) == b'*' && at + 2 < to && is_blank(byte_at(source, to + 2)) {
+        (TokenKind::PhpDoc, to + 2)
+    } else {
+        (TokenKind::Comment, to + 2)
+    }
+}
+
+fn is_identifier(kind: TokenKind) -> bool
+    ensures { result ≡ is_identifier kind }
+{
+    matches!(kind, TokenKind::Identifier)
+}
+
+/// The cast at a place, or its `(` alone, by its kind and its end.
+#[tactic(auto, unfolding(stan_base::specs::model::PhpMarks::parenthesis, stan_base::specs::model::PhpMarks::casts))]
+pub fn parenthesis(source: &[u8], at: usize) -> (TokenKind, usize)
+    requires { at < length source.now }
+    ensures value { result ≡ parenthesis source.now at }
+    ensures rises { at < result.1 }
+    ensures within { result.1 ≤ length source.now }
+{
+    let from = run_end(source, Run::Spaces, at + 1);
+    let to = run_end(source, Run::Word, from);
+    let close = run_end(source, Run::Spaces, to);
+    let kind = kind_among(&CASTS, &source[from..to]);
+    if !is_identifier(kind) && byte_at(source, close) == b')' {
+        (kind, close + 1)
+    } else {
+        (TokenKind::LeftParenthesis, at + 1)
+    }
+}
+
+pub fn begins_closing(source: &[u8], at: usize) -> bool
+    requires { at < 2 ^ 63 }
+    ensures { result ≡ begins_closing source.now at }
+{
+    byte_at(source, at) == b'?' && byte_at(source, at + 1) == b'>'
+}
+
+/// The last `?>`, with nothing or one line end behind it, by its kind and its end. Another one is `Bad`.
+#[tactic(auto, unfolding(stan_base::specs::model::PhpMarks::closing))]
+pub fn closing(source: &[u8], at: usize) -> (TokenKind, usize)
+    requires within { at < length source.now }
+    requires begins { IsTrue (begins_closing source.now at) }
+    ensures value { result ≡ closing source.now at }
+    ensures rises { at < result.1 }
+    ensures within { result.1 ≤ length source.now }
+{
+    let len = source.len();
+    let ends = at + 2 == len
+        || (byte_at(source, at + 2) == b'\n' && at + 3 == len)
+        || (byte_at(source, at + 2) == b'\r' && byte_at(source, at + 3) == b'\n' && at + 4 == len);
+    if ends {
+        (TokenKind::ClosingTag, at + 2)
+    } else {
+        (TokenKind::Bad, at + 1)
+    }
+}
+
+// The first row that stands at a place, by its kind and its end, or `Bad`.
+fn mark_among(rows: &[(&str, TokenKind)], source: &[u8], at: usize) -> (TokenKind, usize)
+    requires { at < length source.now }
+    ensures value { result ≡ mark_among (map row_of rows.now) source.now at }
+    ensures within { result.1 ≤ length source.now }
+{
+    let rest = &source[at..];
+    for (row, kind) in rows {
+        if rest.starts_with(row.as_bytes()) {
+            return (*kind, at + row.len());
+        }
+    }
+    (TokenKind::Bad, at + 1)
+}
+
+/// The longest operator or mark at a place, by its kind and its end. Where none stands it is `Bad`.
+#[tactic(auto, using(crate::proofs::TableLemmas::mark_rises), unfolding(stan_base::specs::model::PhpMarks::mark, stan_base::specs::model::PhpMarks::marks))]
+pub fn mark(source: &[u8], at: usize) -> (TokenKind, usize)
+    requires { at < length source.now }
+    ensures value { result ≡ mark source.now at }
+    ensures rises { at < result.1 }
+    ensures within { result.1 ≤ length source.now }
+{
+    mark_among(&MARKS, source, at)
+}

@@ -1,0 +1,81 @@
+//! Variables, identifiers, keywords and names.
+
+ghost use Rattle.std.specs.Prelude.{◌≡◌, ◌≤◌, ◌<◌, ◌^◌, length, map};
+ghost use Rattle.stan_base.specs.model.PhpWords.{kind_among, begins_relative, name_kind, begins_variable, variable, begins_name, name};
+ghost use Rattle.stan_lexer.specs.Tables.{row_of};
+
+use crate::bytes::{begins_identifier, byte_at};
+use crate::runs::{Run, run_end};
+use stan_base::php::{KEYWORDS, TokenKind};
+
+/// The kind that the rows give a word, which is compared without case, or that of an identifier.
+pub fn kind_among(rows: &[(&str, TokenKind)], word: &[u8]) -> TokenKind
+    ensures { result ≡ kind_among (map row_of rows.now) word.now }
+{
+    for (row, kind) in rows {
+        if word.eq_ignore_ascii_case(row.as_bytes()) {
+            return *kind;
+        }
+    }
+    TokenKind::Identifier
+}
+
+// Whether a name begins with `namespace\`.
+fn begins_relative(name: &[u8]) -> bool
+    ensures { result ≡ begins_relative name.now }
+{
+    name[..name.len().min(10)].eq_ignore_ascii_case("namespace\\".as_bytes())
+}
+
+#[tactic(auto, unfolding(stan_base::specs::model::PhpWords::name_kind, stan_base::specs::model::PhpWords::keywords))]
+fn name_kind(name: &[u8]) -> TokenKind
+    ensures { result ≡ name_kind name.now }
+{
+    if byte_at(name, 0) == b'\\' {
+        TokenKind::FullyQualifiedName
+    } else if begins_relative(name) {
+        TokenKind::RelativeName
+    } else if name.contains(&b'\\') {
+        TokenKind::QualifiedName
+    } else {
+        kind_among(&KEYWORDS, name)
+    }
+}
+
+pub fn begins_variable(source: &[u8], at: usize) -> bool
+    requires { at < 2 ^ 63 }
+    ensures { result ≡ begins_variable source.now at }
+{
+    byte_at(source, at) == b'$' && begins_identifier(byte_at(source, at + 1))
+}
+
+/// The variable at a place, by its kind and its end.
+#[tactic(auto, unfolding(stan_base::specs::model::PhpWords::variable))]
+pub fn variable(source: &[u8], at: usize) -> (TokenKind, usize)
+    requires { at < length source.now }
+    ensures value { result ≡ variable source.now at }
+    ensures rises { at < result.1 }
+    ensures within { result.1 ≤ length source.now }
+{
+    (TokenKind::Variable, run_end(source, Run::Word, at + 1))
+}
+
+pub fn begins_name(source: &[u8], at: usize) -> bool
+    requires { at < 2 ^ 63 }
+    ensures { result ≡ begins_name source.now at }
+{
+    let byte = byte_at(source, at);
+    begins_identifier(byte) || (byte == b'\\' && begins_identifier(byte_at(source, at + 1)))
+}
+
+/// The identifier, keyword or name with `\` at a place, by its kind and its end.
+#[tactic(auto, unfolding(stan_base::specs::model::PhpWords::name))]
+pub fn name(source: &[u8], at: usize) -> (TokenKind, usize)
+    requires { at < length source.now }
+    ensures value { result ≡ name source.now at }
+    ensures rises { at < result.1 }
+    ensures within { result.1 ≤ length source.now }
+{
+    let to = run_end(source, Run::Name, at + 1);
+    (name_kind(&source[at..to]), to)
+}
