@@ -1,5 +1,10 @@
 //! A case is played: a run over a folder and a sink in memory, and what of it is not as the case wants it.
 
+ghost use Rattle.std.specs.Prelude.{◌≡◌, ◌<◌, IfOk, IfSome, OnOk, decimal, string_bytes, string_len};
+ghost use Rattle.stan_cases.specs.Wanted.{IsAsWanted, tally_text};
+ghost use Rattle.stan_outside.specs.MemorySink.{sink_bytes, sink_calls};
+ghost use Rattle.stan_outside.specs.MemoryTree.{tree_calls};
+
 use crate::case::{Case, Files, Place, Wanted};
 use stan_base::OutOfMemory;
 use stan_cli::{Outcome, Tally, run_alone};
@@ -52,7 +57,9 @@ fn differences(
     outcome: &Outcome,
     tree: &MemoryTree,
     sink: &MemorySink,
-) -> Result<String, OutOfMemory> {
+) -> Result<String, OutOfMemory>
+    ensures { IfOk result (λ wrong. string_len wrong ≡ 0 → IsAsWanted wanted.now outcome.now (tree_calls tree.now).faults (sink_calls sink.now).faults (sink_bytes sink.now)) }
+{
     let mut wrong = String::new(alloc);
     let status = outcome.status.to_string(alloc)?;
     compare(&mut wrong, "status", &status, &wanted.status)?;
@@ -68,9 +75,7 @@ fn differences(
         &outcome.to_string(alloc)?,
         &wanted.about,
     )?;
-    let came = sink.bytes().escape_ascii().to_string(alloc)?;
-    let output = wanted.output.as_slice().escape_ascii().to_string(alloc)?;
-    compare(&mut wrong, "output", &came, &output)?;
+    compare_bytes(alloc, &mut wrong, "output", sink.bytes(), &wanted.output)?;
     compare_told(
         alloc,
         &mut wrong,
@@ -88,7 +93,9 @@ fn differences(
     Ok(wrong)
 }
 
-fn tally_text(alloc: Global, tally: Tally) -> Result<String, AllocError> {
+fn tally_text(alloc: Global, tally: Tally) -> Result<String, AllocError>
+    ensures { IfOk result (λ text. string_bytes text ≡ tally_text tally) }
+{
     let Tally {
         files,
         reused,
@@ -104,17 +111,52 @@ fn compare_told(
     what: &str,
     came: u64,
     wanted: &Option<String>,
-) -> Result<(), AllocError> {
+) -> Result<(), AllocError>
+    ensures { OnOk result (string_len wrong.new ≡ 0 → (string_len wrong.old ≡ 0) × IfSome wanted.now (λ text. decimal came ≡ string_bytes text)) }
+{
     match wanted {
         Some(wanted) => compare(wrong, what, &came.to_string(alloc)?, wanted),
         None => Ok(()),
     }
 }
 
-fn compare(wrong: &mut String, what: &str, came: &str, wanted: &str) -> Result<(), AllocError> {
+fn compare(wrong: &mut String, what: &str, came: &str, wanted: &str) -> Result<(), AllocError>
+    ensures same { OnOk result (came.now ≡ wanted.now → string_bytes wrong.new ≡ string_bytes wrong.old) }
+    ensures equal { OnOk result (string_len wrong.new ≡ 0 → (string_len wrong.old ≡ 0) × (came.now ≡ wanted.now)) }
+{
     if came == wanted {
         return Ok(());
     }
+    push_difference(wrong, what, came, wanted)
+}
+
+// Bytes are shown as ASCII, with escapes for the rest.
+fn compare_bytes(
+    alloc: Global,
+    wrong: &mut String,
+    what: &str,
+    came: &[u8],
+    wanted: &[u8],
+) -> Result<(), AllocError>
+    ensures same { OnOk result (came.now ≡ wanted.now → string_bytes wrong.new ≡ string_bytes wrong.old) }
+    ensures equal { OnOk result (string_len wrong.new ≡ 0 → (string_len wrong.old ≡ 0) × (came.now ≡ wanted.now)) }
+{
+    if came == wanted {
+        return Ok(());
+    }
+    let came = came.escape_ascii().to_string(alloc)?;
+    let wanted = wanted.escape_ascii().to_string(alloc)?;
+    push_difference(wrong, what, &came, &wanted)
+}
+
+fn push_difference(
+    wrong: &mut String,
+    what: &str,
+    came: &str,
+    wanted: &str,
+) -> Result<(), AllocError>
+    ensures { OnOk result (0 < string_len wrong.new) }
+{
     if !wrong.is_empty() {
         wrong.push_str("; ")?;
     }
