@@ -10,6 +10,11 @@ pub mod PhpHeredocs
 pub mod PhpMarks
 pub mod PhpTokens
 pub mod PhpValues
+pub mod PhpTrees
+pub mod PhpStrata
+pub mod PhpGrammar
+pub mod PhpDepth
+pub mod PhpTakes
 pub mod Grammar
 pub mod Reading
 pub mod Table

@@ -7,6 +7,7 @@ pub mod laws;
 mod line;
 mod memory;
 mod name;
+pub mod operators;
 pub mod php;
 #[cfg(test)]
 mod tests;

@@ -1,0 +1,12 @@
+//! Trees of PHP's expressions, and how deep they are.
+#![tactic(auto)]
+
+mod tree;
+
+pub use stan_base::operators::{
+    ArrayStyle, AssignmentOperator, BinaryOperator, Leaf, PrefixOperator, Visibility,
+};
+pub use tree::{
+    Argument, Arguments, Arm, Body, ClassReference, Element, Expr, Form, MemberName, Operation,
+    Parameter, Stmt, Suffix, TextPart, TypeTree,
+};
