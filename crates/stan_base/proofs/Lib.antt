@@ -2,10 +2,13 @@ pub mod GrammarLemmas
 pub mod KeywordLemmas
 pub mod LineLemmas
 pub mod Orders
+pub mod PhpInsideLemmas
 pub mod PhpMarkLemmas
 pub mod PhpOrderLemmas
 pub mod PhpRunLemmas
+pub mod PhpSizeLemmas
 pub mod PhpTokenLemmas
+pub mod PhpTreeLemmas
 pub mod ReadingLemmas
 pub mod TokenLemmas
 pub mod SortLemmas

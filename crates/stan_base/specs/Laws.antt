@@ -1,5 +1,5 @@
 -- What holds of the definitions at every source, folder and list: each is the contract of a function of the module `laws`.
-use Rattle.std.specs.Prelude.{◌≡◌, ℕ, ◌≤◌, ◌↔◌, IsTrue, IsSome, Bool, List, length, map, ◌+◌, drop, nat_eq}
+use Rattle.std.specs.Prelude.{◌≡◌, ℕ, ◌<◌, ◌≤◌, ◌↔◌, IsTrue, IsSome, Bool, List, length, map, ◌+◌, drop, nat_eq}
 use Rattle.std.specs.List.{All, AllPairs, Contains, starts_with}
 use Rattle.std.specs.List.Sorted.{IsStrictlySortedBy}
 use Rattle.std.specs.Ordering.{nat_cmp}
@@ -12,6 +12,10 @@ use Rattle.stan_base.specs.model.Bytes.{line_of}
 use Rattle.stan_base.specs.model.PhpBytes.{run_end, IsRun}
 use Rattle.stan_base.specs.model.PhpMarks as PhpMarks
 use Rattle.stan_base.specs.model.PhpTokens as PhpTokens
+use Rattle.stan_base.specs.model.PhpTrees.{Tree}
+use Rattle.stan_base.specs.model.PhpStrata.{joins, is_end}
+use Rattle.stan_base.specs.model.PhpGrammar.{Spells}
+use Rattle.stan_base.specs.model.PhpTakes.{size, IsTreeOf}
 use Rattle.stan_base.specs.model.Tokens.{AreTokens}
 use Rattle.stan_base.specs.model.Grammar.{Top, SpellsFile}
 use Rattle.stan_base.specs.model.Reading.{Reading, IsReading, AreReadings}
@@ -37,6 +41,22 @@ LongestMarkIsRead = (source : List ℕ) (at : ℕ) (row : List ℕ × kind.Token
 -- A run goes on while its places pass, and ends at the first one that fails, or at the end of the source.
 abbrev pub RunsEndWhereTheTestFails : Type 0
 RunsEndWhereTheTestFails = (source : List ℕ) (test : ℕ → Bool) (at : ℕ) → at ≤ length source → IsRun source test at (run_end source test at)
+
+-- An expression's tree spells as many tokens as its size says.
+abbrev pub TreesSpellTheirSize : Type 0
+TreesSpellTheirSize = (ts : List php.Token) (t : Tree) (at to : ℕ) → Spells ts t at to → to ≡ at + size t
+
+-- An expression's tree spells at least one token, and each of them stands in the list.
+abbrev pub TreesStandInTheTokens : Type 0
+TreesStandInTheTokens = (ts : List php.Token) (t : Tree) (at to : ℕ) → Spells ts t at to → (at < to) × (to ≤ length ts)
+
+-- The tokens from one place to another have at most one tree.
+abbrev pub OneTreeOfTokens : Type 0
+OneTreeOfTokens = (ts : List php.Token) (t u : Tree) (at to : ℕ) → IsTreeOf ts t at to → IsTreeOf ts u at to → t ≡ u
+
+-- A token that ends an expression goes on with none, whatever stands behind it.
+abbrev pub EndsGoOnWithNothing : Type 0
+EndsGoOnWithNothing = (kind next : kind.TokenKind) → IsTrue (is_end kind) → joins kind next ≡ 30
 
 -- Tokens spell one list of tops.
 abbrev pub GrammarIsUnambiguous : Type 0

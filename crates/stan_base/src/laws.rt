@@ -1,6 +1,6 @@
 //! Laws of the definitions (`specs/model`): each is the contract of a function that does nothing.
 
-ghost use Rattle.stan_base.specs.Laws.{TokensAreDetermined, OnePhpTokenList, PhpTokensStandInOrder, LongestMarkIsRead, RunsEndWhereTheTestFails, GrammarIsUnambiguous, OneReading, OneReadings, LinesDoNotFall, ChosenOnceInOrder, ChosenAreHeld, ChosenInAnyOrder, FaultsInAnyOrder};
+ghost use Rattle.stan_base.specs.Laws.{TokensAreDetermined, OnePhpTokenList, PhpTokensStandInOrder, LongestMarkIsRead, RunsEndWhereTheTestFails, TreesSpellTheirSize, TreesStandInTheTokens, OneTreeOfTokens, EndsGoOnWithNothing, GrammarIsUnambiguous, OneReading, OneReadings, LinesDoNotFall, ChosenOnceInOrder, ChosenAreHeld, ChosenInAnyOrder, FaultsInAnyOrder};
 
 /// From any place on, a source has one list of tokens.
 pub fn tokens_are_determined()
@@ -25,6 +25,26 @@ pub fn longest_mark_is_read()
 /// A run goes on while its places pass, and ends at the first one that fails, or at the end of the source.
 pub fn runs_end_where_the_test_fails()
     ensures { RunsEndWhereTheTestFails }
+{}
+
+/// An expression's tree spells as many tokens as its size says.
+pub fn trees_spell_their_size()
+    ensures { TreesSpellTheirSize }
+{}
+
+/// An expression's tree spells at least one token, and each of them stands in the list.
+pub fn trees_stand_in_the_tokens()
+    ensures { TreesStandInTheTokens }
+{}
+
+/// The tokens from one place to another have at most one tree.
+pub fn one_tree_of_tokens()
+    ensures { OneTreeOfTokens }
+{}
+
+/// A token that ends an expression goes on with none, whatever stands behind it.
+pub fn ends_go_on_with_nothing()
+    ensures { EndsGoOnWithNothing }
 {}
 
 /// Tokens spell one list of tops.

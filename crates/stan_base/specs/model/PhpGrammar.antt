@@ -1,6 +1,6 @@
 -- The grammar of PHP's expressions, as a relation between a tree and the tokens that it spells: one case a production.
 -- Places count the tokens of the list, which has no comments and attributes.
-use Rattle.std.specs.Prelude.{if◌then◌else◌, ◌≡◌, ◌≢◌, ℕ, ◌+◌, ◌-◌, ◌<◌, ◌≤◌, Bool, true, false, IsTrue, List, [], ◌∷◌, Option, Some, None, take, drop, slice_get}
+use Rattle.std.specs.Prelude.{◌&&◌, if◌then◌else◌, ◌≡◌, ◌≢◌, ℕ, ◌+◌, ◌-◌, ◌<◌, ◌≤◌, Bool, true, false, IsTrue, List, [], ◌∷◌, Option, Some, None, take, drop, slice_get}
 use Rattle.std.specs.List.{fold}
 use Rattle.stan_base.specs.declared.operators.Leaf.TheVariants as leaves
 use Rattle.stan_base.specs.declared.operators.ArrayStyle.TheVariants as styles
@@ -50,6 +50,10 @@ abbrev pub IsSomeStep : Steps → Type 0
 IsSomeStep no_step = ⊥
 IsSomeStep (step x xs) = Unit {0}
 
+abbrev pub is_variable : TokenKind → Bool
+is_variable kinds.Variable = true
+is_variable _ = false
+
 abbrev pub is_without : Arguments → Bool
 is_without no_arguments = true
 is_without (arguments es) = false
@@ -59,7 +63,7 @@ abbrev pub is_place : Step → Bool
 is_place Push = true
 is_place (Index e) = true
 is_place (Property nullsafe name es) = is_without es
-is_place (Scoped t es) = is_without es
+is_place (Scoped t es) = is_variable t.kind && is_without es
 is_place _ = false
 
 abbrev pub ends_in_place : Step → Steps → Bool
