@@ -1,6 +1,6 @@
 -- The step of a search in a table of words.
-use Rattle.std.proofs.Common.{◌≡◌, ℕ, ◌+◌, ◌<◌, List, [], ◌∷◌, map, length, drop, get_or, Bool, true, false, cond, refl, add-one, drop-cons, arith}
-use Rattle.std.specs.Prelude.{nat_eq, nat_lt, ◌&&◌}
+use Rattle.std.proofs.Common.{◌≡◌, ℕ, ◌+◌, ◌<◌, List, [], ◌∷◌, map, length, take, drop, get_or, Bool, true, false, cond, refl, sym, ap, add-one, drop-cons, arith}
+use Rattle.std.specs.Prelude.{nat_eq, nat_lt, ◌&&◌, slice_index}
 use Rattle.std.specs.List.{starts_with, list_all}
 use Rattle.std.proofs.lemmas.Bool.{false≢true}
 use borrow.Author.Tests.{ltb-true}
@@ -39,6 +39,13 @@ module _ (rows : List (Bor (List ℕ) × TokenKind)) (source : List ℕ) (at i :
 
   pub mark_among_passed : starts_with nat_eq (drop at source) (get_or rows i d).0.now ≡ false → mark_among (map row_of (drop (i + 1) rows)) source at ≡ mark_among (map row_of (drop i rows)) source at
   mark_among_passed e = rw (mark_among_drop, e) refl
+
+-- Bytes don't begin with a mark whose first byte is another.
+pub starts_with_apart : (rest mark : List ℕ) → 0 < length mark → (slice_index rest 0 ≡ slice_index mark 0 → ⊥) → starts_with nat_eq rest mark ≡ false
+starts_with_apart rest [] some apart = absurd (omega arith)
+starts_with_apart [] (y ∷ ys) some apart = refl
+starts_with_apart (x ∷ xs) (y ∷ ys) some apart =
+    not_true _ (λ e. apart (sym (ap (λ bytes. slice_index bytes 0) ((bytes_decides (y ∷ ys) (take (length (y ∷ ys)) (x ∷ xs))).0 e))))
 
 abbrev is_some_mark : List ℕ × TokenKind → Bool
 is_some_mark row = nat_lt 0 (length row.0)

@@ -1,3 +1,4 @@
+pub mod Bases
 pub mod Joined
 pub mod Quotes
 pub mod Runs

@@ -1,6 +1,7 @@
 //! The tokens of PHP source, exactly those that `stan_base` defines (`specs/model/PhpTokens.antt`).
 #![tactic(auto)]
 
+mod bases;
 mod bytes;
 mod cut;
 mod escapes;
@@ -16,6 +17,10 @@ mod quotes;
 mod runs;
 #[cfg(test)]
 mod slow;
+#[cfg(test)]
+mod slow_texts;
+#[cfg(test)]
+mod slow_words;
 #[cfg(test)]
 mod tests;
 mod tokens;

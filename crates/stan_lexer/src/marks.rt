@@ -1,7 +1,8 @@
 //! Comments, casts, the last `?>`, operators and marks.
 
-ghost use Rattle.std.specs.Prelude.{◌≡◌, ◌≤◌, ◌<◌, ◌^◌, length, map, IsTrue};
-ghost use Rattle.stan_base.specs.model.PhpMarks.{begins_remark, remark, begins_comment, comment, is_identifier, parenthesis, begins_closing, closing, mark_among, mark};
+ghost use Rattle.std.specs.Prelude.{◌≡◌, ◌≤◌, ◌<◌, ◌^◌, nat_eq, length, map, IsTrue};
+ghost use Rattle.std.specs.List.{starts_with};
+ghost use Rattle.stan_base.specs.model.PhpMarks.{begins_remark, begins_comment, comment, is_identifier, parenthesis, begins_closing, closing, mark_among, mark};
 ghost use Rattle.stan_lexer.specs.Tables.{row_of};
 
 use crate::bytes::{byte_at, is_blank};
@@ -16,17 +17,6 @@ pub fn begins_remark(source: &[u8], at: usize) -> bool
     let byte = byte_at(source, at);
     let next = byte_at(source, at + 1);
     (byte == b'#' && next != b'[') || (byte == b'/' && next == b'/')
-}
-
-/// The comment at a place, up to its line's end or to `?>`, by its kind and its end.
-#[tactic(auto, unfolding(stan_base::specs::model::PhpMarks::remark))]
-pub fn remark(source: &[u8], at: usize) -> (TokenKind, usize)
-    requires { at < length source.now }
-    ensures value { result ≡ remark source.now at }
-    ensures rises { at < result.1 }
-    ensures within { result.1 ≤ length source.now }
-{
-    (TokenKind::Comment, run_end(source, Run::Remark, at + 1))
 }
 
 pub fn begins_comment(source: &[u8], at: usize) -> bool
@@ -107,6 +97,17 @@ pub fn closing(source: &[u8], at: usize) -> (TokenKind, usize)
     }
 }
 
+// Whether bytes begin with a mark. Most marks of a table differ in the first byte.
+#[tactic(auto, using(crate::proofs::TableLemmas::starts_with_apart))]
+fn begins_with(rest: &[u8], mark: &[u8]) -> bool
+    ensures { result ≡ starts_with nat_eq rest.now mark.now }
+{
+    if !mark.is_empty() && byte_at(rest, 0) != byte_at(mark, 0) {
+        return false;
+    }
+    rest.starts_with(mark)
+}
+
 // The first row that stands at a place, by its kind and its end, or `Bad`.
 fn mark_among(rows: &[(&str, TokenKind)], source: &[u8], at: usize) -> (TokenKind, usize)
     requires { at < length source.now }
@@ -115,7 +116,7 @@ fn mark_among(rows: &[(&str, TokenKind)], source: &[u8], at: usize) -> (TokenKin
 {
     let rest = &source[at..];
     for (row, kind) in rows {
-        if rest.starts_with(row.as_bytes()) {
+        if begins_with(rest, row.as_bytes()) {
             return (*kind, at + row.len());
         }
     }

@@ -2,10 +2,12 @@
 
 ghost use Rattle.std.specs.Prelude.{◌≡◌, ◌≤◌, ◌<◌, ◌+◌, ◌*◌, ◌^◌, length, IsTrue, MatchOption, slice_index, slice_range};
 ghost use Rattle.stan_base.specs.model.PhpBytes.{is_digit, is_hexadecimal_digit, digit_value, with_digit, digits_value};
-ghost use Rattle.stan_base.specs.model.PhpNumbers.{integer_kind, has_hexadecimal_prefix, has_binary_prefix, integer, fraction_end, exponent_end, begins_number, number};
+ghost use Rattle.stan_base.specs.model.PhpNumbers.{integer_kind, has_prefix, integer, fraction_end, exponent_end, begins_number, number};
+ghost use Rattle.stan_lexer.specs.Bases.{is_digit_in};
 ghost use Rattle.stan_lexer.specs.Runs.{digits_of};
 
-use crate::bytes::{byte_at, is_binary_digit, is_digit, is_hexadecimal_digit};
+use crate::bases::{Base, is_digit_in, radix};
+use crate::bytes::{byte_at, is_digit};
 use crate::runs::{Run, run_end};
 use stan_base::php::TokenKind;
 
@@ -64,38 +66,28 @@ fn integer_kind(base: u64, digits: &[u8]) -> TokenKind
     }
 }
 
-pub fn has_hexadecimal_prefix(source: &[u8], at: usize) -> bool
+/// Whether `0`, one of two letters and a digit of a base stand there.
+pub fn has_prefix(source: &[u8], small: u8, capital: u8, base: Base, at: usize) -> bool
     requires { at < 2 ^ 63 }
-    ensures value { result ≡ has_hexadecimal_prefix source.now at }
+    ensures value { result ≡ has_prefix source.now at small capital (is_digit_in base) }
     ensures within { IsTrue result → at + 2 ≤ length source.now }
 {
     let letter = byte_at(source, at + 1);
+    let digit = byte_at(source, at + 2);
     byte_at(source, at) == b'0'
-        && (letter == b'x' || letter == b'X')
-        && is_hexadecimal_digit(byte_at(source, at + 2))
-}
-
-pub fn has_binary_prefix(source: &[u8], at: usize) -> bool
-    requires { at < 2 ^ 63 }
-    ensures value { result ≡ has_binary_prefix source.now at }
-    ensures within { IsTrue result → at + 2 ≤ length source.now }
-{
-    let letter = byte_at(source, at + 1);
-    byte_at(source, at) == b'0'
-        && (letter == b'b' || letter == b'B')
-        && is_binary_digit(byte_at(source, at + 2))
+        && (letter == small || letter == capital)
+        && is_digit_in(base, digit)
 }
 
 // The integer whose digits begin at a place, by its kind and its end.
-fn digits(source: &[u8], base: u64, run: Run, from: usize) -> (TokenKind, usize)
-    requires base { 1 ≤ base }
-    requires within { from ≤ length source.now }
-    ensures value { result ≡ digits_of source.now base run from }
+fn digits(source: &[u8], base: Base, from: usize) -> (TokenKind, usize)
+    requires { from ≤ length source.now }
+    ensures value { result ≡ digits_of source.now base from }
     ensures rises { from ≤ result.1 }
     ensures within { result.1 ≤ length source.now }
 {
-    let to = run_end(source, run, from);
-    (integer_kind(base, &source[from..to]), to)
+    let to = run_end(source, Run::Digits(base), from);
+    (integer_kind(radix(base), &source[from..to]), to)
 }
 
 // The longest integer that begins with a digit, by its kind and its end.
@@ -107,14 +99,14 @@ fn integer(source: &[u8], at: usize) -> (TokenKind, usize)
     ensures rises { at < result.1 }
     ensures within { result.1 ≤ length source.now }
 {
-    if has_hexadecimal_prefix(source, at) {
-        digits(source, 16, Run::Hexadecimal, at + 2)
-    } else if has_binary_prefix(source, at) {
-        digits(source, 2, Run::Binary, at + 2)
+    if has_prefix(source, b'x', b'X', Base::Hexadecimal, at) {
+        digits(source, Base::Hexadecimal, at + 2)
+    } else if has_prefix(source, b'b', b'B', Base::Binary, at) {
+        digits(source, Base::Binary, at + 2)
     } else if source[at] == b'0' {
-        digits(source, 8, Run::Octal, at)
+        digits(source, Base::Octal, at)
     } else {
-        digits(source, 10, Run::Decimal, at)
+        digits(source, Base::Decimal, at)
     }
 }
 
@@ -129,7 +121,7 @@ fn fraction_end(source: &[u8], at: usize) -> usize
     if byte_at(source, at) != b'.' {
         at
     } else if is_digit(byte_at(source, at + 1)) {
-        run_end(source, Run::Decimal, at + 1)
+        run_end(source, Run::Digits(Base::Decimal), at + 1)
     } else {
         at + 1
     }
@@ -155,7 +147,7 @@ fn exponent_end(source: &[u8], at: usize) -> usize
     };
     let digit = byte_at(source, from);
     if is_digit(digit) {
-        run_end(source, Run::Decimal, from)
+        run_end(source, Run::Digits(Base::Decimal), from)
     } else {
         at
     }
@@ -179,10 +171,10 @@ pub fn number(source: &[u8], at: usize) -> (TokenKind, usize)
     ensures within { result.1 ≤ length source.now }
 {
     if source[at] == b'.' {
-        let fraction = run_end(source, Run::Decimal, at + 1);
+        let fraction = run_end(source, Run::Digits(Base::Decimal), at + 1);
         return (TokenKind::Float, exponent_end(source, fraction));
     }
-    let whole = run_end(source, Run::Decimal, at);
+    let whole = run_end(source, Run::Digits(Base::Decimal), at);
     let to = exponent_end(source, fraction_end(source, whole));
     if whole < to {
         (TokenKind::Float, to)

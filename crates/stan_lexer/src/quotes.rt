@@ -127,7 +127,8 @@ fn index_end(source: &[u8], at: usize) -> usize
     } else if begins_variable(source, at) {
         run_end(source, Run::Word, at + 1)
     } else if byte == b'-' {
-        integer_end(source, at + 1)
+        let to = integer_end(source, at + 1);
+        if at + 1 < to { to } else { at }
     } else {
         integer_end(source, at)
     }

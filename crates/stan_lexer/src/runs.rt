@@ -1,13 +1,14 @@
 //! Runs of places that pass one test.
 
-ghost use Rattle.std.specs.Prelude.{◌≡◌, ◌≤◌, ◌<◌, ◌^◌, length, max};
+ghost use Rattle.std.specs.Prelude.{◌≡◌, ◌+◌, ◌≤◌, ◌<◌, ◌^◌, length, max};
 ghost use Rattle.stan_base.specs.model.PhpBytes.{run_end};
 ghost use Rattle.stan_lexer.specs.Runs.{passes};
 
+use crate::bases::{Base, is_digit_in};
 use crate::bytes::{
-    begins_identifier, byte_at, continues_identifier, is_binary_digit, is_blank, is_digit,
-    is_hexadecimal_digit, is_octal_digit, is_space,
+    begins_identifier, byte_at, continues_identifier, is_blank, is_hexadecimal_digit, is_space,
 };
+use stan_base::php::TokenKind;
 
 /// What the places of a run hold.
 #[derive(Clone, Copy)]
@@ -18,11 +19,8 @@ pub enum Run {
     Word,
     /// Words with `\` between them.
     Name,
-    /// Digits, where one `_` may stand between two.
-    Decimal,
-    Octal,
-    Binary,
-    Hexadecimal,
+    /// Digits of a base, where one `_` may stand between two.
+    Digits(Base),
     /// Hexadecimal digits alone.
     CodePoint,
     /// No line feed.
@@ -59,36 +57,13 @@ fn comment_at(source: &[u8], at: usize) -> bool
     !(byte_at(source, at) == b'*' && byte_at(source, at + 1) == b'/')
 }
 
-fn decimal_at(source: &[u8], at: usize) -> bool
+// A digit, or a `_` with a digit behind it.
+fn digit_at(source: &[u8], base: Base, at: usize) -> bool
     requires { at < 2 ^ 63 }
-    ensures { result ≡ passes Run.Decimal source.now at }
+    ensures { result ≡ passes (Run.Digits base) source.now at }
 {
     let byte = byte_at(source, at);
-    is_digit(byte) || (byte == b'_' && is_digit(byte_at(source, at + 1)))
-}
-
-fn octal_at(source: &[u8], at: usize) -> bool
-    requires { at < 2 ^ 63 }
-    ensures { result ≡ passes Run.Octal source.now at }
-{
-    let byte = byte_at(source, at);
-    is_octal_digit(byte) || (byte == b'_' && is_octal_digit(byte_at(source, at + 1)))
-}
-
-fn binary_at(source: &[u8], at: usize) -> bool
-    requires { at < 2 ^ 63 }
-    ensures { result ≡ passes Run.Binary source.now at }
-{
-    let byte = byte_at(source, at);
-    is_binary_digit(byte) || (byte == b'_' && is_binary_digit(byte_at(source, at + 1)))
-}
-
-fn hexadecimal_at(source: &[u8], at: usize) -> bool
-    requires { at < 2 ^ 63 }
-    ensures { result ≡ passes Run.Hexadecimal source.now at }
-{
-    let byte = byte_at(source, at);
-    is_hexadecimal_digit(byte) || (byte == b'_' && is_hexadecimal_digit(byte_at(source, at + 1)))
+    is_digit_in(base, byte) || (byte == b'_' && is_digit_in(base, byte_at(source, at + 1)))
 }
 
 // Whether a place may stand in a run.
@@ -101,10 +76,7 @@ fn passes(run: Run, source: &[u8], at: usize) -> bool
         Run::Spaces => is_space(byte_at(source, at)),
         Run::Word => continues_identifier(byte_at(source, at)),
         Run::Name => name_at(source, at),
-        Run::Decimal => decimal_at(source, at),
-        Run::Octal => octal_at(source, at),
-        Run::Binary => binary_at(source, at),
-        Run::Hexadecimal => hexadecimal_at(source, at),
+        Run::Digits(base) => digit_at(source, base, at),
         Run::CodePoint => is_hexadecimal_digit(byte_at(source, at)),
         Run::Line => byte_at(source, at) != b'\n',
         Run::Remark => remark_at(source, at),
@@ -124,4 +96,14 @@ pub fn run_end(source: &[u8], run: Run, from: usize) -> usize
         to += 1;
     }
     to
+}
+
+/// The token that is the byte at a place and a run behind it, by its kind and its end.
+pub fn byte_and_run(source: &[u8], kind: TokenKind, run: Run, at: usize) -> (TokenKind, usize)
+    requires { at < length source.now }
+    ensures value { result ≡ (kind, run_end source.now (passes run source.now) (at + 1)) }
+    ensures rises { at < result.1 }
+    ensures within { result.1 ≤ length source.now }
+{
+    (kind, run_end(source, run, at + 1))
 }

@@ -1,153 +1,227 @@
-//! A plain slow program that finds words, numbers, casts and marks: a token is the longest front of what is left that some kind
-//! spells. Every short source over a few pieces is read with it, and `lex` gives the same tokens.
+//! A plain slow program that finds the tokens of a source: a token is the longest front of what is left that some kind spells, and
+//! a bracket is read with all that stands in it. Every short source over a few pieces is read with it, and `lex` gives the same
+//! tokens.
 
+use crate::slow_texts::{begins_long, comment_kind, ends_file, piece_kind, text_kind};
+use crate::slow_words::{is_keyword, mark_kind, word_kind};
 use crate::{TokenKind, lex};
-use stan_base::php::{CASTS, KEYWORDS, MARKS};
 use std::alloc::Global;
 use std::test::Fail;
 
+/// The kind, the start and the end of a token.
 type Found = (TokenKind, usize, usize);
 
-fn row_of(rows: &[(&str, TokenKind)], text: &str) -> Option<TokenKind> {
-    for (row, kind) in rows {
-        if text.eq_ignore_ascii_case(row) {
-            return Some(*kind);
+// The kind of the token of code that stands between two places. Where something begins that may not end, no mark stands for it.
+fn kind_of(source: &str, start: usize, end: usize, may_be_mark: bool) -> Option<TokenKind> {
+    let text = source.get(start..end).unwrap_or("");
+    let behind = source.get(end..).unwrap_or("");
+    if text == "?>" && ends_file(behind) {
+        return Some(TokenKind::ClosingTag);
+    }
+    if let Some(kind) = word_kind(text) {
+        return Some(kind);
+    }
+    if let Some(kind) = text_kind(text, behind) {
+        return Some(kind);
+    }
+    if let Some(kind) = comment_kind(text, behind) {
+        return Some(kind);
+    }
+    if may_be_mark { mark_kind(text) } else { None }
+}
+
+// The longest token of code at a place, if one is there.
+fn longest(source: &str, start: usize) -> Option<Found> {
+    let may_be_mark = !begins_long(source.get(start..).unwrap_or(""));
+    for last in (start..source.len()).rev() {
+        let end = last.saturating_add(1);
+        if let Some(kind) = kind_of(source, start, end, may_be_mark) {
+            return Some((kind, start, end));
         }
     }
     None
 }
 
-// Identifiers with `\` between them, where one may stand in front.
-fn is_name(text: &str) -> bool {
-    let mut is_first = true;
-    let mut last = b'\\';
-    for byte in text.as_bytes() {
-        let begins = byte.is_ascii_alphabetic() || *byte == b'_';
-        let fits = match *byte {
-            b'\\' => is_first || last != b'\\',
-            _ => begins || (byte.is_ascii_digit() && last != b'\\'),
-        };
-        if !fits {
-            return false;
-        }
-        is_first = false;
-        last = *byte;
-    }
-    last != b'\\'
-}
-
-fn name_kind(text: &str) -> TokenKind {
-    match text.split_once('\\') {
-        Some(("", _)) => TokenKind::FullyQualifiedName,
-        Some((first, _)) if first.eq_ignore_ascii_case("namespace") => TokenKind::RelativeName,
-        Some(_) => TokenKind::QualifiedName,
-        None => row_of(&KEYWORDS, text).unwrap_or(TokenKind::Identifier),
-    }
-}
-
-// Whether a byte is a digit of a base up to 16.
-fn is_digit(byte: u8, base: u8) -> bool {
-    let value = match byte {
-        b'0'..=b'9' => byte - b'0',
-        b'a'..=b'f' => byte - b'a' + 10,
-        _ => return false,
-    };
-    value < base
-}
-
-// Digits of a base, where one `_` may stand between two.
-fn are_digits(text: &str, base: u8) -> bool {
-    let mut is_behind_digit = false;
-    for byte in text.as_bytes() {
-        let is_digit = is_digit(*byte, base);
-        if !is_digit && !(*byte == b'_' && is_behind_digit) {
-            return false;
-        }
-        is_behind_digit = is_digit;
-    }
-    is_behind_digit
-}
-
-fn is_integer(text: &str) -> bool {
-    if let Some(digits) = text.strip_prefix("0x") {
-        return are_digits(digits, 16);
-    }
-    if let Some(digits) = text.strip_prefix("0b") {
-        return are_digits(digits, 2);
-    }
-    are_digits(text, if text.starts_with('0') { 8 } else { 10 })
-}
-
-// Digits, which may have a point before, between or behind them.
-fn is_mantissa(text: &str) -> bool {
-    match text.split_once('.') {
-        Some(("", "")) => false,
-        Some((whole, part)) => {
-            (whole.is_empty() || are_digits(whole, 10)) && (part.is_empty() || are_digits(part, 10))
-        }
-        None => are_digits(text, 10),
-    }
-}
-
-fn is_float(text: &str) -> bool {
-    match text.split_once('e') {
-        Some((mantissa, exponent)) => {
-            is_mantissa(mantissa) && are_digits(exponent.strip_prefix('-').unwrap_or(exponent), 10)
-        }
-        None => text.contains('.') && is_mantissa(text),
-    }
-}
-
-fn cast_of(text: &str) -> Option<TokenKind> {
-    let word = text.strip_prefix('(')?.strip_suffix(')')?;
-    row_of(&CASTS, word.trim_matches([' ', '\t']))
-}
-
-// The kind that a text spells as one token.
-fn kind_of(text: &str) -> Option<TokenKind> {
-    if let Some(name) = text.strip_prefix('$') {
-        return if is_name(name) && !name.contains('\\') {
-            Some(TokenKind::Variable)
-        } else {
-            None
-        };
-    }
-    if is_name(text) {
-        return Some(name_kind(text));
-    }
-    if is_integer(text) {
-        return Some(TokenKind::Integer);
-    }
-    if is_float(text) {
-        return Some(TokenKind::Float);
-    }
-    cast_of(text).or(row_of(&MARKS, text))
-}
-
-// The kind and the end of the longest token at a place, or `Bad`.
-fn longest(source: &str, start: usize) -> (TokenKind, usize) {
+// The longest token at a place of a text with insertions, if one is there.
+fn longest_piece(source: &str, start: usize) -> Option<Found> {
     for last in (start..source.len()).rev() {
         let end = last.saturating_add(1);
-        if let Some(kind) = kind_of(source.get(start..end).unwrap_or("")) {
-            return (kind, end);
+        if let Some(kind) = piece_kind(source, start, end) {
+            return Some((kind, start, end));
         }
     }
-    (TokenKind::Bad, start.saturating_add(1))
+    None
 }
 
-// Each token by its kind, its start and its end.
+// The kind of the last token, comments and attributes aside.
+fn last_kind(tokens: &[Found]) -> TokenKind {
+    for (kind, _, _) in tokens.iter().rev() {
+        if !matches!(
+            kind,
+            TokenKind::Comment | TokenKind::PhpDoc | TokenKind::Attribute
+        ) {
+            return *kind;
+        }
+    }
+    TokenKind::End
+}
+
+// Adds a token. Behind an arrow a keyword is a name.
+fn push(tokens: &mut Vec<Found>, token: Found) -> Result<(), Fail> {
+    let (kind, start, end) = token;
+    let is_name = match last_kind(tokens) {
+        TokenKind::Arrow | TokenKind::NullsafeArrow => is_keyword(kind),
+        TokenKind::DoubleColon => is_keyword(kind) && kind != TokenKind::Class,
+        _ => false,
+    };
+    let kind = if is_name { TokenKind::Identifier } else { kind };
+    tokens.push((kind, start, end))?;
+    Ok(())
+}
+
+fn is_blank(byte: Option<u8>) -> bool {
+    matches!(byte, Some(b' ' | b'\t' | b'\r' | b'\n'))
+}
+
+// Adds the tokens of a text with insertions, and gives the place behind it. None where it doesn't end.
+#[cycle(reading)]
+fn read_text(
+    tokens: &mut Vec<Found>,
+    source: &str,
+    start: usize,
+    left: u32,
+) -> Result<Option<usize>, Fail> {
+    if left == 0 {
+        return Ok(None);
+    }
+    let mut from = start.saturating_add(1);
+    push(tokens, (TokenKind::TextStart, start, from))?;
+    for at in start..source.len() {
+        if at < from {
+            continue;
+        }
+        let rest = source.get(at..).unwrap_or("");
+        let next = at.saturating_add(1);
+        if rest.starts_with('"') {
+            push(tokens, (TokenKind::TextEnd, at, next))?;
+            return Ok(Some(next));
+        }
+        if rest.starts_with("{$") {
+            push(tokens, (TokenKind::InsertionStart, at, next))?;
+            let Some(close) = read_inside(tokens, source, next, (b'{', b'}'), left - 1)? else {
+                return Ok(None);
+            };
+            from = close.saturating_add(1);
+            push(tokens, (TokenKind::InsertionEnd, close, from))?;
+        } else {
+            let Some(piece) = longest_piece(source, at) else {
+                return Ok(None);
+            };
+            from = piece.2;
+            push(tokens, piece)?;
+        }
+    }
+    Ok(None)
+}
+
+// Adds an attribute without the tokens in it, and gives the place behind it. None where it doesn't end.
+#[cycle(reading)]
+fn read_attribute(
+    tokens: &mut Vec<Found>,
+    source: &str,
+    start: usize,
+    left: u32,
+) -> Result<Option<usize>, Fail> {
+    if left == 0 {
+        return Ok(None);
+    }
+    let count = tokens.len();
+    let from = start.saturating_add(2);
+    let Some(close) = read_inside(tokens, source, from, (b'[', b']'), left - 1)? else {
+        return Ok(None);
+    };
+    let end = close.saturating_add(1);
+    tokens.truncate(count);
+    push(tokens, (TokenKind::Attribute, start, end))?;
+    Ok(Some(end))
+}
+
+// Adds the tokens of code up to the bracket that closes it, and gives its place. None where it isn't there.
+#[cycle(reading)]
+fn read_inside(
+    tokens: &mut Vec<Found>,
+    source: &str,
+    from: usize,
+    brackets: (u8, u8),
+    left: u32,
+) -> Result<Option<usize>, Fail> {
+    if left == 0 {
+        return Ok(None);
+    }
+    let mut from = from;
+    let mut depth: u32 = 0;
+    for at in 0..source.len() {
+        let byte = source.as_bytes().get(at).copied();
+        if at < from || is_blank(byte) {
+            continue;
+        }
+        if byte == Some(brackets.1) && depth == 0 {
+            return Ok(Some(at));
+        }
+        if byte == Some(brackets.0) {
+            depth = depth.saturating_add(1);
+        }
+        if byte == Some(brackets.1) {
+            depth = depth.saturating_sub(1);
+        }
+        let Some(end) = read_one(tokens, source, at, left - 1)? else {
+            return Ok(None);
+        };
+        from = end;
+    }
+    Ok(None)
+}
+
+// Adds the token of code at a place with all that stands in it, and gives the place behind it. None where no whole one is there.
+#[cycle(reading)]
+fn read_one(
+    tokens: &mut Vec<Found>,
+    source: &str,
+    start: usize,
+    left: u32,
+) -> Result<Option<usize>, Fail> {
+    if left == 0 {
+        return Ok(None);
+    }
+    if let Some(token) = longest(source, start) {
+        push(tokens, token)?;
+        return Ok(Some(token.2));
+    }
+    let rest = source.get(start..).unwrap_or("");
+    if rest.starts_with('"') {
+        read_text(tokens, source, start, left - 1)
+    } else if rest.starts_with("#[") {
+        read_attribute(tokens, source, start, left - 1)
+    } else {
+        Ok(None)
+    }
+}
+
+// The tokens from a place on. Of what isn't whole the first byte is `Bad`, or the `#[`.
 fn slow_tokens(alloc: Global, source: &str, from: usize) -> Result<Vec<Found>, Fail> {
     let mut tokens = Vec::new(alloc);
     let mut from = from;
     for (start, byte) in source.as_bytes().iter().enumerate() {
-        if start < from || byte.is_ascii_whitespace() {
+        if start < from || is_blank(Some(*byte)) {
             continue;
         }
-        let (kind, end) = longest(source, start);
-        tokens.push((kind, start, end))?;
-        if kind == TokenKind::Bad {
+        let count = tokens.len();
+        let Some(end) = read_one(&mut tokens, source, start, 100)? else {
+            let length = if *byte == b'#' { 2 } else { 1 };
+            tokens.truncate(count);
+            tokens.push((TokenKind::Bad, start, start.saturating_add(length)))?;
             break;
-        }
+        };
         from = end;
     }
     Ok(tokens)
@@ -164,10 +238,10 @@ fn fast_tokens(alloc: Global, source: &str) -> Result<Vec<Found>, Fail> {
     Ok(tokens)
 }
 
-// Every source of at most so many pieces.
-fn sources(alloc: Global, pieces: &[&str], most: usize) -> Result<Vec<String>, Fail> {
+// A front with at most so many pieces behind it.
+fn sources(alloc: Global, front: &str, pieces: &[&str], most: usize) -> Result<Vec<String>, Fail> {
     let mut all = Vec::new(alloc);
-    all.push(String::from_str(alloc, "<?php ")?)?;
+    all.push(format!(in alloc; "<?php {front}")?)?;
     let mut from = 0;
     for _ in 0..most {
         let to = all.len();
@@ -186,21 +260,77 @@ fn sources(alloc: Global, pieces: &[&str], most: usize) -> Result<Vec<String>, F
     Ok(all)
 }
 
+// The first source of a front, at most four pieces and a back that the two programs read otherwise.
+fn difference(alloc: Global, front: &str, pieces: &[&str], back: &str) -> Result<String, Fail> {
+    for start in &sources(alloc, front, pieces, 4)? {
+        let source = format!(in alloc; "{start}{back}")?;
+        let tokens = fast_tokens(alloc, &source)?;
+        let wanted = slow_tokens(alloc, &source, 6)?;
+        if tokens.as_slice() != wanted.as_slice() {
+            return Ok(format!(in alloc; "{source}: {tokens:?}, not {wanted:?}")?);
+        }
+    }
+    Ok(String::new(alloc))
+}
+
 #[test]
-fn lex_finds_the_longest_tokens(rt: HostRuntime) -> Result<(), Fail> {
-    let pieces: [&[&str]; 5] = [
-        &["$", "\\", "a", "1", "_", "If", "namespace", " "],
+fn words_and_marks_are_the_longest(rt: HostRuntime) -> Result<(), Fail> {
+    let sets: [&[&str]; 5] = [
+        &["$", "\\", "a", "1", "é", "If", "namespace", " "],
         &["0", "1", "9", "x", "b", "_", ".", "e", "-"],
         &["(", ")", "int", "Bool", "x", " ", "\t", "\n"],
         &["<", "=", ">", "!", "*", "&", ":", "."],
         &["?", "?->", "=", "-", "+", "|", "^", ";"],
     ];
-    for pieces in pieces {
-        for source in &sources(rt.alloc(), pieces, 4)? {
-            let tokens = fast_tokens(rt.alloc(), source)?;
-            let wanted = slow_tokens(rt.alloc(), source, 6)?;
-            assert_eq!(rt; tokens.as_slice(), wanted.as_slice(), "{source}");
-        }
+    for pieces in sets {
+        assert_eq!(rt; difference(rt.alloc(), "", pieces, "")?.as_str(), "");
     }
+    Ok(())
+}
+
+#[test]
+fn comments_and_attributes_are_the_longest(rt: HostRuntime) -> Result<(), Fail> {
+    let sets: [(&str, &[&str], &str); 4] = [
+        ("", &["/*", "*", "/", "#", "[", " ", "?>"], ""),
+        ("//", &["/", "?", ">", "\r", "\n", "?>"], "\n"),
+        ("#[", &["[", "]", "#[", "'", "\"", "/*", "{$a"], "\n] if"),
+        (
+            "$a",
+            &["->", "::", "class", "List", "/**/", "#[A]"],
+            "?-> If",
+        ),
+    ];
+    for (front, pieces, back) in sets {
+        assert_eq!(rt; difference(rt.alloc(), front, pieces, back)?.as_str(), "");
+    }
+    Ok(())
+}
+
+#[test]
+fn texts_in_quotes_are_the_longest(rt: HostRuntime) -> Result<(), Fail> {
+    let sets: [(&str, &[&str], &str); 4] = [
+        ("'", &["'", "\\", "a", "\"", "\n", "$a"], "'"),
+        ("\"", &["\\", "\"", "u{", "10FFFF", "}", "$", "{"], "\""),
+        ("\"$a", &["[", "]", "0", "-", "->", "?", "é", "$b"], "\""),
+        ("\"{$a", &["{", "}", "\"", "'", "{$b", "#[", "]"], "}\""),
+    ];
+    for (front, pieces, back) in sets {
+        assert_eq!(rt; difference(rt.alloc(), front, pieces, back)?.as_str(), "");
+    }
+    Ok(())
+}
+
+#[test]
+fn heredocs_end_at_their_first_label(rt: HostRuntime) -> Result<(), Fail> {
+    let heads = [" ", "'", "\"", "A", "1", "\r", "\n"];
+    assert_eq!(rt;
+        difference(rt.alloc(), "<<<", &heads, "\n A;")?.as_str(),
+        ""
+    );
+    let lines = ["A", "1", "\t", "\n", "$", "{", "\\", "u{"];
+    assert_eq!(rt;
+        difference(rt.alloc(), "<<<A\n", &lines, "\nA;")?.as_str(),
+        ""
+    );
     Ok(())
 }

@@ -6,12 +6,12 @@ ghost use Rattle.stan_base.specs.model.PhpTokens.{is_in_text, is_in_insertion, i
 use crate::bytes::byte_at;
 use crate::heredocs::{begins_heredoc, heredoc};
 use crate::marks::{
-    begins_closing, begins_comment, begins_remark, closing, comment, mark, parenthesis, remark,
+    begins_closing, begins_comment, begins_remark, closing, comment, mark, parenthesis,
 };
 use crate::numbers::{begins_number, number};
 use crate::quotes::{double_quoted, single_quoted, text_token};
-use crate::runs::{Run, run_end};
-use crate::words::{begins_name, begins_variable, name, variable};
+use crate::runs::{Run, byte_and_run, run_end};
+use crate::words::{begins_name, begins_variable, name};
 use stan_base::php::{Opening, TokenKind};
 
 pub fn is_in_text(top: Option<Opening>) -> bool
@@ -53,7 +53,7 @@ fn begins_literal(source: &[u8], at: usize) -> bool
 }
 
 // The word, number or text at a place, by its kind and its end.
-#[tactic(auto, unfolding(stan_base::specs::model::PhpTokens::begins_literal, stan_base::specs::model::PhpTokens::literal))]
+#[tactic(auto, unfolding(stan_base::specs::model::PhpTokens::begins_literal, stan_base::specs::model::PhpTokens::literal, stan_base::specs::model::PhpWords::variable))]
 fn literal(source: &[u8], at: usize) -> (TokenKind, usize)
     requires within { at < length source.now }
     requires begins { IsTrue (begins_literal source.now at) }
@@ -63,7 +63,7 @@ fn literal(source: &[u8], at: usize) -> (TokenKind, usize)
 {
     let byte = source[at];
     if begins_variable(source, at) {
-        variable(source, at)
+        byte_and_run(source, TokenKind::Variable, Run::Word, at)
     } else if begins_name(source, at) {
         name(source, at)
     } else if begins_number(source, at) {
@@ -117,7 +117,7 @@ fn bound(source: &[u8], at: usize) -> (TokenKind, usize)
 }
 
 // The longest token at a place outside of texts, by its kind and its end.
-#[tactic(auto, unfolding(stan_base::specs::model::PhpTokens::code_token))]
+#[tactic(auto, unfolding(stan_base::specs::model::PhpTokens::code_token, stan_base::specs::model::PhpMarks::remark))]
 fn code_token(source: &[u8], top: Option<Opening>, at: usize) -> (TokenKind, usize)
     requires { at < length source.now }
     ensures value { result ≡ code_token source.now top at }
@@ -129,7 +129,7 @@ fn code_token(source: &[u8], top: Option<Opening>, at: usize) -> (TokenKind, usi
     } else if begins_bound(source, top, at) {
         bound(source, at)
     } else if begins_remark(source, at) {
-        remark(source, at)
+        byte_and_run(source, TokenKind::Comment, Run::Remark, at)
     } else if begins_comment(source, at) {
         comment(source, at)
     } else if source[at] == b'(' {

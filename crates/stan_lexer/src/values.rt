@@ -3,10 +3,11 @@
 ghost use Rattle.std.specs.Prelude.{◌≡◌, ◌≤◌, ◌<◌, length, MatchOption, IfOk};
 ghost use Rattle.stan_base.specs.model.PhpValues.{integer_value, between_quotes, without_line_end, body_lines, text_value};
 
+use crate::bases::Base;
 use crate::bytes::byte_at;
 use crate::escapes::{resolved, single_resolved, unindented};
 use crate::heredocs::{begins_heredoc, body_end, body_start, label_end, label_start};
-use crate::numbers::{has_binary_prefix, has_hexadecimal_prefix, value};
+use crate::numbers::{has_prefix, value};
 use crate::runs::{Run, run_end};
 use stan_base::OutOfMemory;
 use stan_base::php::TokenKind;
@@ -17,9 +18,9 @@ use std::alloc::Global;
 pub fn integer_value(bytes: &[u8]) -> Option<u64>
     ensures { MatchOption result (9223372036854775807 < integer_value bytes.now) (λ v. (v ≡ integer_value bytes.now) × (v ≤ 9223372036854775807)) }
 {
-    if has_hexadecimal_prefix(bytes, 0) {
+    if has_prefix(bytes, b'x', b'X', Base::Hexadecimal, 0) {
         value(16, &bytes[2..])
-    } else if has_binary_prefix(bytes, 0) {
+    } else if has_prefix(bytes, b'b', b'B', Base::Binary, 0) {
         value(2, &bytes[2..])
     } else if byte_at(bytes, 0) == b'0' {
         value(8, bytes)

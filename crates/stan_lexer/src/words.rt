@@ -1,7 +1,7 @@
 //! Variables, identifiers, keywords and names.
 
 ghost use Rattle.std.specs.Prelude.{◌≡◌, ◌≤◌, ◌<◌, ◌^◌, length, map};
-ghost use Rattle.stan_base.specs.model.PhpWords.{kind_among, begins_relative, name_kind, begins_variable, variable, begins_name, name};
+ghost use Rattle.stan_base.specs.model.PhpWords.{kind_among, begins_relative, name_kind, begins_variable, begins_name, name};
 ghost use Rattle.stan_lexer.specs.Tables.{row_of};
 
 use crate::bytes::{begins_identifier, byte_at};
@@ -47,17 +47,6 @@ pub fn begins_variable(source: &[u8], at: usize) -> bool
     ensures { result ≡ begins_variable source.now at }
 {
     byte_at(source, at) == b'$' && begins_identifier(byte_at(source, at + 1))
-}
-
-/// The variable at a place, by its kind and its end.
-#[tactic(auto, unfolding(stan_base::specs::model::PhpWords::variable))]
-pub fn variable(source: &[u8], at: usize) -> (TokenKind, usize)
-    requires { at < length source.now }
-    ensures value { result ≡ variable source.now at }
-    ensures rises { at < result.1 }
-    ensures within { result.1 ≤ length source.now }
-{
-    (TokenKind::Variable, run_end(source, Run::Word, at + 1))
 }
 
 pub fn begins_name(source: &[u8], at: usize) -> bool

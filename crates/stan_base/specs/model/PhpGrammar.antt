@@ -1,6 +1,6 @@
 -- The grammar of PHP's expressions, as a relation between a tree and the tokens that it spells: one case a production.
 -- Places count the tokens of the list, which has no comments and attributes.
-use Rattle.std.specs.Prelude.{◌&&◌, if◌then◌else◌, ◌≡◌, ◌≢◌, ℕ, ◌+◌, ◌-◌, ◌<◌, ◌≤◌, Bool, true, false, IsTrue, List, [], ◌∷◌, Option, Some, None, take, drop, slice_get}
+use Rattle.std.specs.Prelude.{not, ◌&&◌, if◌then◌else◌, ◌≡◌, ◌≢◌, ℕ, ◌+◌, ◌-◌, ◌<◌, ◌≤◌, Bool, true, false, IsTrue, List, [], ◌∷◌, Option, Some, None, take, drop, slice_get}
 use Rattle.std.specs.List.{fold}
 use Rattle.stan_base.specs.declared.operators.Leaf.TheVariants as leaves
 use Rattle.stan_base.specs.declared.operators.ArrayStyle.TheVariants as styles
@@ -70,10 +70,15 @@ abbrev pub ends_in_place : Step → Steps → Bool
 ends_in_place x no_step = is_place x
 ends_in_place x (step y ys) = ends_in_place y ys
 
+-- An arrow function ends with an expression, which may not be followed by more of a target.
+abbrev pub is_arrow : Tree → Bool
+is_arrow (node t (Arrow static reference parameters type e)) = true
+is_arrow _ = false
+
 abbrev pub is_assignable : AssignmentOperator → Tree → Bool
 is_assignable o (node t (Single leaves.Variable)) = true
 is_assignable o (node t (Array style es)) = takes_pattern o
-is_assignable o (node t (Post e (step x xs))) = ends_in_place x xs
+is_assignable o (node t (Post e (step x xs))) = not (is_arrow e) && ends_in_place x xs
 is_assignable o _ = false
 
 -- ---- the body of a closure

@@ -45,7 +45,7 @@ unfoldable pub index_end : List ℕ → ℕ → ℕ
 index_end source at =
     if begins_identifier (slice_index source at) then run_end source (word_at source) at else (
     if begins_variable source at then run_end source (word_at source) (at + 1) else (
-    if slice_index source at == 45 then integer_end source (at + 1) else integer_end source at))
+    if slice_index source at == 45 then (if nat_lt (at + 1) (integer_end source (at + 1)) then integer_end source (at + 1) else at) else integer_end source at))
 
 -- an index in brackets
 abbrev pub has_index : List ℕ → ℕ → Bool

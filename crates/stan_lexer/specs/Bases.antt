@@ -1,0 +1,18 @@
+-- The bases of integers.
+use Rattle.std.specs.Prelude.{ℕ, Bool}
+use Rattle.stan_base.specs.model.PhpBytes.{is_digit, is_octal_digit, is_binary_digit, is_hexadecimal_digit}
+use Rattle.stan_lexer.specs.declared.bases.Base.{Base}
+use Rattle.stan_lexer.specs.declared.bases.Base.TheVariants as bases
+
+abbrev pub is_digit_in : Base → ℕ → Bool
+is_digit_in bases.Binary = is_binary_digit
+is_digit_in bases.Octal = is_octal_digit
+is_digit_in bases.Decimal = is_digit
+is_digit_in bases.Hexadecimal = is_hexadecimal_digit
+
+-- how many digits a base has
+abbrev pub radix : Base → ℕ
+radix bases.Binary = 2
+radix bases.Octal = 8
+radix bases.Decimal = 10
+radix bases.Hexadecimal = 16
