@@ -1,1 +1,4 @@
+pub mod Cases
+pub mod Played
+pub mod Unread
 pub mod Wanted

@@ -21,7 +21,7 @@
 //! Bytes are given by lines `|TEXT`, a text with a line feed behind it, `+TEXT`, a text alone, `hex DIGITS`, and
 //! `fill NUMBER DIGITS`, so many times the bytes of the digits. What a case leaves out of the sink is ample.
 
-ghost use Rattle.std.specs.Prelude.{◌<◌};
+ghost use Rattle.std.specs.Prelude.{◌≡◌, ◌<◌, IfOk, string_bytes};
 
 use hex::FromHexError;
 use std::alloc::{AllocError, AllocFailed, Global};
@@ -98,6 +98,11 @@ pub enum Why {
 }
 
 impl fmt::Display for Unread {
+    ghost use Rattle.std.specs.Prelude.{Some};
+    ghost use Rattle.stan_cases.specs.Unread.{unread_text};
+
+    ghost output = { λ unread. Some (unread_text unread) };
+
     fn fmt<W: fmt::Write>(&self, f: &mut fmt::Formatter<W>) -> fmt::Result {
         let line = self.line;
         match self.why {
@@ -129,7 +134,9 @@ impl From<FromHexError> for Why {
 }
 
 impl Case {
-    fn new(alloc: Global, name: &str) -> Result<Case, AllocError> {
+    pub fn new(alloc: Global, name: &str) -> Result<Case, AllocError>
+        ensures { IfOk result (λ case. string_bytes case.name ≡ name.now) }
+    {
         Ok(Case {
             name: String::from_str(alloc, name)?,
             words: Vec::new(alloc),
@@ -152,7 +159,10 @@ impl Case {
         })
     }
 
-    fn take_line(&mut self, alloc: Global, line: &str) -> Result<(), Why> {
+    /// Takes a line behind the one that begins the case.
+    pub fn take_line(&mut self, alloc: Global, line: &str) -> Result<(), Why>
+        ensures { self.new.name ≡ self.old.name }
+    {
         if let Some(text) = line.strip_prefix('|') {
             self.push_bytes(text.as_bytes())?;
             return self.push_bytes(b"\n");
@@ -165,7 +175,9 @@ impl Case {
     }
 
     // What is given to a run.
-    fn take_given(&mut self, alloc: Global, key: &str, rest: &str) -> Result<(), Why> {
+    fn take_given(&mut self, alloc: Global, key: &str, rest: &str) -> Result<(), Why>
+        ensures { self.new.name ≡ self.old.name }
+    {
         match key {
             "words" => self.push_words(alloc, rest)?,
             "word" => self.words.push(String::from_str(alloc, rest)?)?,
@@ -183,14 +195,18 @@ impl Case {
         Ok(())
     }
 
-    fn push_words(&mut self, alloc: Global, rest: &str) -> Result<(), Why> {
+    fn push_words(&mut self, alloc: Global, rest: &str) -> Result<(), Why>
+        ensures { self.new.name ≡ self.old.name }
+    {
         for word in rest.split(' ') {
             self.words.push(String::from_str(alloc, word)?)?;
         }
         Ok(())
     }
 
-    fn push_bytes(&mut self, bytes: &[u8]) -> Result<(), Why> {
+    fn push_bytes(&mut self, bytes: &[u8]) -> Result<(), Why>
+        ensures { self.new.name ≡ self.old.name }
+    {
         if self.is_at_output {
             self.wanted.output.extend_from_slice(bytes)?;
             return Ok(());
@@ -202,14 +218,18 @@ impl Case {
         Ok(())
     }
 
-    fn push_files(&mut self, alloc: Global, place: Place) -> Result<(), Why> {
+    fn push_files(&mut self, alloc: Global, place: Place) -> Result<(), Why>
+        ensures { self.new.name ≡ self.old.name }
+    {
         let bytes = Vec::new(alloc);
         self.files.push(Files { place, bytes })?;
         self.is_at_output = false;
         Ok(())
     }
 
-    fn push_fill(&mut self, alloc: Global, text: &str) -> Result<(), Why> {
+    fn push_fill(&mut self, alloc: Global, text: &str) -> Result<(), Why>
+        ensures { self.new.name ≡ self.old.name }
+    {
         let (number, digits) = text.split_once(' ').unwrap_or((text, ""));
         let bytes = hex::decode(alloc, digits)?;
         for _ in 0..number_of(number)? {
@@ -246,32 +266,4 @@ impl Wanted {
 
 fn number_of(text: &str) -> Result<u64, Why> {
     text.parse::<u64>().map_err(|_| Why::Form)
-}
-
-fn take_line(alloc: Global, cases: &mut Vec<Case>, line: &str) -> Result<(), Why> {
-    if line.is_empty() || line.starts_with('#') {
-        return Ok(());
-    }
-    if let Some(name) = line.strip_prefix("case ") {
-        cases.push(Case::new(alloc, name)?)?;
-        return Ok(());
-    }
-    match cases.last_mut() {
-        Some(case) => case.take_line(alloc, line),
-        None => Err(Why::Form),
-    }
-}
-
-/// The cases of a text, in its order.
-pub fn read_cases(alloc: Global, text: &str) -> Result<Vec<Case>, Unread> {
-    let mut cases = Vec::new(alloc);
-    for (place, line) in text.split('\n').enumerate() {
-        if let Err(why) = take_line(alloc, &mut cases, line) {
-            return Err(Unread {
-                line: place.saturating_add(1),
-                why,
-            });
-        }
-    }
-    Ok(cases)
 }

@@ -4,9 +4,11 @@
 
 mod case;
 mod play;
+mod reading;
 
-use case::{Case, read_cases};
+use case::Case;
 use play::what_is_wrong;
+use reading::read_cases;
 use std::process::ExitCode;
 use std::rt::Files;
 use std::{fs, io};

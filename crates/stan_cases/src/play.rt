@@ -1,7 +1,10 @@
 //! A case is played: a run over a folder and a sink in memory, and what of it is not as the case wants it.
 
-ghost use Rattle.std.specs.Prelude.{◌≡◌, ◌<◌, IfOk, IfSome, OnOk, decimal, string_bytes, string_len};
+ghost use Rattle.std.specs.Prelude.{◌≡◌, ◌<◌, ◌++◌, IfOk, IfSome, OnOk, decimal, map, string_bytes, string_len};
+ghost use Rattle.std.specs.List.{range_with_len};
+ghost use Rattle.stan_cases.specs.Played.{numbered_path, single_files, IsRight};
 ghost use Rattle.stan_cases.specs.Wanted.{IsAsWanted, tally_text};
+ghost use Rattle.stan_outside.specs.Memory.{file_of};
 ghost use Rattle.stan_outside.specs.MemorySink.{sink_bytes, sink_calls};
 ghost use Rattle.stan_outside.specs.MemoryTree.{tree_calls};
 
@@ -12,7 +15,9 @@ use stan_outside::{MemorySink, MemoryTree, are_files};
 use std::alloc::{AllocError, Global};
 
 /// What is wrong with a run, as one line of text, which is empty where nothing is.
-pub fn what_is_wrong(alloc: Global, case: Case) -> Result<String, OutOfMemory> {
+pub fn what_is_wrong(alloc: Global, case: Case) -> Result<String, OutOfMemory>
+    ensures right { IfOk result (λ wrong. string_len wrong ≡ 0 → IsRight case) }
+{
     let files = single_files(alloc, &case.files)?;
     if !are_files(&files) {
         return Ok(String::from_str(
@@ -28,7 +33,9 @@ pub fn what_is_wrong(alloc: Global, case: Case) -> Result<String, OutOfMemory> {
 }
 
 // Each file by itself, as a tree takes them.
-fn single_files(alloc: Global, all: &[Files]) -> Result<Vec<(String, Vec<u8>)>, OutOfMemory> {
+fn single_files(alloc: Global, all: &[Files]) -> Result<Vec<(String, Vec<u8>)>, OutOfMemory>
+    ensures { IfOk result (λ single. map file_of single.items ≡ single_files all.now) }
+{
     let mut single = Vec::new(alloc);
     for files in all {
         match &files.place {
@@ -44,7 +51,9 @@ fn push_numbered(
     single: &mut Vec<(String, Vec<u8>)>,
     number: u64,
     bytes: &Vec<u8>,
-) -> Result<(), OutOfMemory> {
+) -> Result<(), OutOfMemory>
+    ensures { OnOk result (map file_of single.new.items ≡ map file_of single.old.items ++ map (λ place. (numbered_path place, bytes.now.items)) (range_with_len 0 number)) }
+{
     for place in 0..number {
         single.push((format!(in alloc; "{place:05}.php")?, bytes.clone()?))?;
     }

@@ -7,7 +7,7 @@ use Rattle.std.proofs.lemmas.Slice.Zip.{length-zip, seconds-zip}
 use Rattle.stan_base.proofs.ReadingLemmas.{one_readings}
 use Rattle.stan_cli.specs.Raw.{raw_text}
 use Rattle.stan_cli.specs.Report.{IsReport, faults_of_project}
-use Rattle.stan_base.specs.model.Project.{Contents, paths_of, sources_of, most_files, excess_from}
+use Rattle.stan_base.specs.model.Project.{Contents, chosen_files, paths_of, sources_of, most_files, excess_from}
 use Rattle.stan_cli.specs.declared.refusal.Refusal.{Refusal}
 use Rattle.stan_cli.specs.declared.refusal.Refusal.TheVariants.{BadWords, Limit, TreeFault, SinkFault, OutOfMemory}
 use Rattle.stan_cli.specs.declared.refusal.Which.TheVariants.{Files, Bytes}
@@ -56,6 +56,17 @@ rest-map f xs =
     let short : length (drop 2 xs) ≤ length xs - 2 = omega (arith, length-drop 2 xs) in
     ap (map f) (take_all (length xs - 2) (drop 2 xs) short) ∙ sym (drop-map f 2 xs)
 
+-- the files of the words, by what was read at their paths
+pub read_files : {X : Type 0} (f : X → List ℕ) (words : List X) (contents : Contents) (files : List (List ℕ × List ℕ))
+    → files ≡ chosen_files (map f (take (length words - 2) (drop 2 words))) contents → files ≡ files_of (map f words) contents
+read_files f words contents files e = e ∙ ap (λ paths. chosen_files paths contents) (rest-map f words)
+
+-- the report over what was read is that of the files
+pub read_report : {X Y : Type 0} (f : X → List ℕ) (h : Y → List ℕ) (xs seen_xs : List X) (ys seen_ys : List Y) (files : List (List ℕ × List ℕ)) (text : List ℕ) (status : ℕ)
+    → seen_xs ≡ xs → seen_ys ≡ ys → zip (map f xs) (map h ys) ≡ files → IsReport (zip (map f seen_xs) (map h seen_ys)) text status → IsReport files text status
+read_report f h xs seen_xs ys seen_ys files text status same_xs same_ys e report =
+    subst (λ those. IsReport those text status) ((λ i. zip (map f (same_xs i)) (map h (same_ys i))) ∙ e) report
+
 -- files by their paths and their sources keep the limits
 module _ (files : List (List ℕ × List ℕ)) {X Y : Type 0} (f : X → List ℕ) (h : Y → List ℕ) (xs : List X) (ys : List Y) (e : zip (map f xs) (map h ys) ≡ files) (few : length xs ≤ most_files) (each : length ys ≡ length xs) where
   each-map : length (map h ys) ≡ length (map f xs)
@@ -74,3 +85,8 @@ module _ (files : List (List ℕ × List ℕ)) {X Y : Type 0} (f : X → List �
 pub one_report : (files : List (List ℕ × List ℕ)) (text other : List ℕ) (status another : ℕ) → IsReport files text status → IsReport files other another → text ≡ other
 one_report files text other status another r s =
     r.text_is ∙ ap (λ readings. raw_text (faults_of_project files readings)) (one_readings (sources_of files) r.readings s.readings r.are_read s.are_read) ∙ sym s.text_is
+
+-- what is written finds the room that the report has
+pub report_fits : (files : List (List ℕ × List ℕ)) (text built sent : List ℕ) (status another room : ℕ) → IsReport files text status → IsReport files built another → sent ≡ built → length text ≤ room → length sent ≤ room
+report_fits files text built sent status another room report own same fits =
+    subst (λ those. length those ≤ room) (one_report files text built status another report own ∙ sym same) fits

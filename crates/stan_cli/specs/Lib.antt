@@ -1,3 +1,4 @@
+pub mod About
 pub mod Choice
 pub mod Files
 pub mod Raw

@@ -44,6 +44,10 @@ impl Outcome {
 
 /// The line about a run: why it was refused, or how many files there were.
 impl fmt::Display for Outcome {
+    ghost use Rattle.stan_cli.specs.About.{about};
+
+    ghost output = { λ outcome. Some (about outcome) };
+
     fn fmt<W: fmt::Write>(&self, f: &mut fmt::Formatter<W>) -> fmt::Result {
         match &self.refusal {
             Some(refusal) => write!(f, "stan: {refusal}"),

@@ -1,13 +1,11 @@
-use Rattle.std.proofs.Common.{◌≡◌, ◌≤◌, ◌∙◌, sym, ap, subst, map, length, string_bytes, None, take, ◌++◌}
-use Rattle.std.specs.List.{zip}
+use Rattle.std.proofs.Common.{◌≡◌, ◌∙◌, sym, ap, subst, map, length, string_bytes, None, take, ◌++◌}
 use Rattle.std.proofs.lemmas.Bool.{false≢true}
 use Rattle.std.proofs.lemmas.Result.{err_from_is_err_and}
 use Rattle.stan_base.specs.model.Project.{chosen_files}
 use Rattle.stan_cli.specs.Sources.{source_bytes}
 use Rattle.stan_cli.specs.Words.{refused_part}
-use Rattle.stan_cli.specs.Report.{IsReport}
 use Rattle.stan_cli.specs.Run.{files_of, IsProjectRefusal}
-use Rattle.stan_cli.proofs.RunLemmas.{comes-project, rest-map, keeps_limits, length-files, one_report}
+use Rattle.stan_cli.proofs.RunLemmas.{comes-project, rest-map, read_files, read_report, report_fits, keeps_limits, length-files}
 use Rattle.stan_cli.proofs.run.attempt.Goals as goal
 
 pub returns-in_err-project-clause-comes : goal.returns-in_err-project-clause-comes
@@ -34,10 +32,8 @@ returns-in_err-write_text-clause-comes g c =
       none,
       written.failed,
       λ told.
-          let zipped : zip (map string_bytes c.in_ok-project.project.paths.items) (map source_bytes c.in_ok-project.project.sources.items) ≡ files = project.files told ∙ ap (λ ps. chosen_files ps contents) (rest-map string_bytes c.args.words.now) in
-          let report : IsReport files (string_bytes c.in_ok-report.report.text) c.in_ok-report.report.status =
-          subst (λ those. IsReport those (string_bytes c.in_ok-report.report.text) c.in_ok-report.report.status)
-          ((λ i. zip (map string_bytes (c.deref.ensures.value i)) (map source_bytes (c.deref-2.ensures.value i))) ∙ zipped) c.in_ok-report.ensures in (
+          let zipped = read_files string_bytes c.args.words.now contents _ (project.files told) in
+          let report = read_report string_bytes source_bytes _ _ _ _ files _ _ c.deref.ensures.value c.deref-2.ensures.value zipped c.in_ok-report.ensures in (
             keeps_limits files string_bytes source_bytes _ _ zipped project.few project.each project.within,
             λ sink_told.
                 let front = written.front sink_told in
@@ -47,15 +43,12 @@ returns-in_err-write_text-clause-comes g c =
 
 pub returns-in_err-write_text-clause-room : goal.returns-in_err-write_text-clause-room
 returns-in_err-write_text-clause-room g c told text status report room =
-    let words = map string_bytes c.args.words.now in
     let contents = g.T.Tree.contents c.args.tree.now in
-    let files = files_of words contents in
+    let files = files_of (map string_bytes c.args.words.now) contents in
     let project = c.in_ok-project.ensures in
-    let zipped : zip (map string_bytes c.in_ok-project.project.paths.items) (map source_bytes c.in_ok-project.project.sources.items) ≡ files = project.files told ∙ ap (λ ps. chosen_files ps contents) (rest-map string_bytes c.args.words.now) in
-    let own : IsReport files (string_bytes c.in_ok-report.report.text) c.in_ok-report.report.status =
-    subst (λ those. IsReport those (string_bytes c.in_ok-report.report.text) c.in_ok-report.report.status)
-    ((λ i. zip (map string_bytes (c.deref.ensures.value i)) (map source_bytes (c.deref-2.ensures.value i))) ∙ zipped) c.in_ok-report.ensures in
-    let fits : length c.as_bytes.result.now ≤ g.K.Sink.room c.args.sink.now = subst (λ those. length those ≤ g.K.Sink.room c.args.sink.now) (one_report files text _ status _ report own ∙ sym c.as_bytes.ensures.value) room in
+    let zipped = read_files string_bytes c.args.words.now contents _ (project.files told) in
+    let own = read_report string_bytes source_bytes _ _ _ _ files _ _ c.deref.ensures.value c.deref-2.ensures.value zipped c.in_ok-report.ensures in
+    let fits = report_fits files text _ c.as_bytes.result.now status _ _ report own c.as_bytes.ensures.value room in
     absurd (false≢true (c.in_err-write_text.ensures.room fits).0)
 
 pub returns-clause-comes : goal.returns-clause-comes
@@ -67,10 +60,8 @@ returns-clause-comes g c =
     let project = c.in_ok-project.ensures in (
       none,
       λ told.
-          let zipped : zip (map string_bytes c.in_ok-project.project.paths.items) (map source_bytes c.in_ok-project.project.sources.items) ≡ files = project.files told ∙ ap (λ ps. chosen_files ps contents) (rest-map string_bytes c.args.words.now) in
-          let report : IsReport files (string_bytes c.in_ok-report.report.text) c.in_ok-report.report.status =
-          subst (λ those. IsReport those (string_bytes c.in_ok-report.report.text) c.in_ok-report.report.status)
-          ((λ i. zip (map string_bytes (c.deref.ensures.value i)) (map source_bytes (c.deref-2.ensures.value i))) ∙ zipped) c.in_ok-report.ensures in (
+          let zipped = read_files string_bytes c.args.words.now contents _ (project.files told) in
+          let report = read_report string_bytes source_bytes _ _ _ _ files _ _ c.deref.ensures.value c.deref-2.ensures.value zipped c.in_ok-report.ensures in (
             ap length c.as_slice.ensures.value ∙ length-files files string_bytes source_bytes _ _ zipped project.few project.each,
             keeps_limits files string_bytes source_bytes _ _ zipped project.few project.each project.within,
             (string_bytes c.in_ok-report.report.text, report, λ sink_told. c.in_ok-write_text.ensures.written sink_told ∙ ap (λ text. g.K.Sink.written c.args.sink.now ++ text) c.as_bytes.ensures.value),
@@ -79,13 +70,10 @@ returns-clause-comes g c =
 
 pub returns-clause-room : goal.returns-clause-room
 returns-clause-room g c told text status report room =
-    let words = map string_bytes c.args.words.now in
     let contents = g.T.Tree.contents c.args.tree.now in
-    let files = files_of words contents in
+    let files = files_of (map string_bytes c.args.words.now) contents in
     let project = c.in_ok-project.ensures in
-    let zipped : zip (map string_bytes c.in_ok-project.project.paths.items) (map source_bytes c.in_ok-project.project.sources.items) ≡ files = project.files told ∙ ap (λ ps. chosen_files ps contents) (rest-map string_bytes c.args.words.now) in
-    let own : IsReport files (string_bytes c.in_ok-report.report.text) c.in_ok-report.report.status =
-    subst (λ those. IsReport those (string_bytes c.in_ok-report.report.text) c.in_ok-report.report.status)
-    ((λ i. zip (map string_bytes (c.deref.ensures.value i)) (map source_bytes (c.deref-2.ensures.value i))) ∙ zipped) c.in_ok-report.ensures in
-    let fits : length c.as_bytes.result.now ≤ g.K.Sink.room c.args.sink.now = subst (λ those. length those ≤ g.K.Sink.room c.args.sink.now) (one_report files text _ status _ report own ∙ sym c.as_bytes.ensures.value) room in
+    let zipped = read_files string_bytes c.args.words.now contents _ (project.files told) in
+    let own = read_report string_bytes source_bytes _ _ _ _ files _ _ c.deref.ensures.value c.deref-2.ensures.value zipped c.in_ok-report.ensures in
+    let fits = report_fits files text _ c.as_bytes.result.now status _ _ report own c.as_bytes.ensures.value room in
     ((c.in_ok-write_text.ensures.room fits).1, λ e. cc)
