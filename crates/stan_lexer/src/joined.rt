@@ -45,7 +45,8 @@ fn is_class(kind: TokenKind) -> bool
     matches!(kind, TokenKind::Class)
 }
 
-fn is_keyword(kind: TokenKind) -> bool
+/// Whether the token is one of the reserved words.
+pub fn is_keyword(kind: TokenKind) -> bool
     ensures { result ≡ is_keyword kind }
 {
     matches!(

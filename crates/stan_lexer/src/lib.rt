@@ -27,6 +27,7 @@ mod tokens;
 mod values;
 mod words;
 
+pub use joined::is_keyword;
 pub use lexer::lex;
 pub use parts::{code_tokens, comments};
 pub use stan_base::php::{Token, TokenKind};
