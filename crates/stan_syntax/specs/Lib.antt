@@ -1,1 +1,4 @@
+-- what the public contracts rest on
 pub mod Tree
+-- what functions inside promise each other
+pub mod Depth

@@ -1,7 +1,6 @@
 -- The tree of the model that a value of the program stands for, by one layer of it at a time.
 use Rattle.std.specs.Prelude.{ℕ, Bool, List, [], ◌∷◌, Option, Some, None, map}
 use Rattle.stan_base.specs.declared.operators.BinaryOperator.{BinaryOperator}
-use Rattle.stan_base.specs.declared.php.Token.{Token}
 use Rattle.stan_base.specs.model.PhpStrata.{binary_stratum}
 use Rattle.stan_base.specs.model.PhpTrees as model
 use Rattle.stan_syntax.specs.declared.tree.TypeTree.{TypeTree}

@@ -1,6 +1,9 @@
 //! Trees of PHP's expressions, and how deep they are.
 #![tactic(auto)]
 
+mod depth;
+#[cfg(test)]
+mod tests;
 mod tree;
 
 pub use stan_base::operators::{
