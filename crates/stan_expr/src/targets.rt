@@ -1,0 +1,222 @@
+//! What may be assigned to.
+
+ghost use Rattle.std.specs.Prelude.{◌≡◌, ◌&&◌, not, map, option_map};
+ghost use Rattle.stan_base.specs.model.PhpGrammar as grammar;
+ghost use Rattle.stan_base.specs.model.PhpStrata as strata;
+ghost use Rattle.stan_base.specs.model.PhpTrees as model;
+ghost use Rattle.stan_expr.specs.Parse as parse;
+ghost use Rattle.stan_expr.specs.Targets as spec;
+ghost use Rattle.stan_syntax.specs.Tree.{tree_of, arguments_of, element_of, suffix_of, may_be_called, furthers};
+
+use stan_base::operators::{ArrayStyle, AssignmentOperator, Leaf};
+use stan_base::php::TokenKind;
+use stan_syntax::{Arguments, Element, Expr, Form, Suffix};
+
+/// Whether it is an array that holds `list(..)`, itself or as a value.
+#[cycle(patterns)]
+pub fn is_pattern(e: &Expr) -> bool
+    ensures { result ≡ model.is_pattern (tree_of e.now) }
+{
+    match &e.form {
+        Form::Leaf(_) => false,
+        Form::Brackets(_) => false,
+        Form::Array {
+            style,
+            elements,
+            ..
+        } => is_pattern_array(*style, elements.as_slice()),
+        Form::IsSet { .. } => false,
+        Form::Empty(_) => false,
+        Form::Exit(_) => false,
+        Form::New(..) => false,
+        Form::Match { .. } => false,
+        Form::Closure { .. } => false,
+        Form::Arrow { .. } => false,
+        Form::Text(_) => false,
+        Form::Post(..) => false,
+        Form::Prefix(..) => false,
+        Form::Assignment(..) => false,
+        Form::Chain(..) => false,
+        Form::Binary(..) => false,
+        Form::Conditional(..) => false,
+    }
+}
+
+#[cycle(patterns)]
+fn is_pattern_array(style: ArrayStyle, elements: &[Element]) -> bool
+    ensures { result ≡ spec.is_pattern_array style (map element_of elements.now) }
+{
+    match style {
+        ArrayStyle::List => true,
+        ArrayStyle::Brackets => any_pattern(elements),
+        ArrayStyle::Array => any_pattern(elements),
+    }
+}
+
+#[cycle(patterns)]
+fn any_pattern(elements: &[Element]) -> bool
+    ensures { result ≡ model.further_pattern (furthers (map element_of elements.now)) }
+{
+    for element in elements {
+        if is_pattern_element(element) {
+            return true;
+        }
+    }
+    false
+}
+
+#[cycle(patterns)]
+fn is_pattern_element(element: &Element) -> bool
+    ensures { result ≡ model.is_pattern_item (element_of element.now) }
+{
+    match element {
+        Element::Spread(_) => false,
+        Element::Value { value, .. } => is_pattern(value),
+        Element::Keyed { value, .. } => is_pattern(value),
+    }
+}
+
+pub fn is_conditional(e: &Expr) -> bool
+    ensures { result ≡ parse.is_conditional (tree_of e.now) }
+{
+    match &e.form {
+        Form::Leaf(_) => false,
+        Form::Brackets(_) => false,
+        Form::Array { .. } => false,
+        Form::IsSet { .. } => false,
+        Form::Empty(_) => false,
+        Form::Exit(_) => false,
+        Form::New(..) => false,
+        Form::Match { .. } => false,
+        Form::Closure { .. } => false,
+        Form::Arrow { .. } => false,
+        Form::Text(_) => false,
+        Form::Post(..) => false,
+        Form::Prefix(..) => false,
+        Form::Assignment(..) => false,
+        Form::Chain(..) => false,
+        Form::Binary(..) => false,
+        Form::Conditional(..) => true,
+    }
+}
+
+fn is_arrow(e: &Expr) -> bool
+    ensures { result ≡ grammar.is_arrow (tree_of e.now) }
+{
+    match &e.form {
+        Form::Leaf(_) => false,
+        Form::Brackets(_) => false,
+        Form::Array { .. } => false,
+        Form::IsSet { .. } => false,
+        Form::Empty(_) => false,
+        Form::Exit(_) => false,
+        Form::New(..) => false,
+        Form::Match { .. } => false,
+        Form::Closure { .. } => false,
+        Form::Arrow { .. } => true,
+        Form::Text(_) => false,
+        Form::Post(..) => false,
+        Form::Prefix(..) => false,
+        Form::Assignment(..) => false,
+        Form::Chain(..) => false,
+        Form::Binary(..) => false,
+        Form::Conditional(..) => false,
+    }
+}
+
+fn takes_pattern(operator: AssignmentOperator) -> bool
+    ensures { result ≡ strata.takes_pattern operator }
+{
+    match operator {
+        AssignmentOperator::Assign | AssignmentOperator::Reference => true,
+        _ => false,
+    }
+}
+
+fn is_without(arguments: &Option<Arguments>) -> bool
+    ensures { result ≡ grammar.is_without (may_be_called (option_map arguments_of arguments.now)) }
+{
+    match arguments {
+        None => true,
+        Some(_) => false,
+    }
+}
+
+fn is_static_property(kind: TokenKind, arguments: &Option<Arguments>) -> bool
+    ensures { result ≡ (grammar.is_variable kind && grammar.is_without (may_be_called (option_map arguments_of arguments.now))) }
+{
+    is_variable(kind) && is_without(arguments)
+}
+
+/// An element, a property or a static property.
+fn is_place(suffix: &Suffix) -> bool
+    ensures { result ≡ grammar.is_place (suffix_of suffix.now) }
+{
+    match suffix {
+        Suffix::Push => true,
+        Suffix::Index(_) => true,
+        Suffix::Property { arguments, .. } => is_without(arguments),
+        Suffix::Scoped(name, arguments) => is_static_property(name.kind, arguments),
+        Suffix::Call(_) => false,
+        Suffix::Increment => false,
+        Suffix::Decrement => false,
+    }
+}
+
+fn is_variable(kind: TokenKind) -> bool
+    ensures { result ≡ grammar.is_variable kind }
+{
+    match kind {
+        TokenKind::Variable => true,
+        _ => false,
+    }
+}
+
+fn ends_in_place(suffixes: &[Suffix]) -> bool
+    ensures { result ≡ spec.ends_in_place (map suffix_of suffixes.now) }
+{
+    match suffixes.last() {
+        Some(last) => is_place(last),
+        None => false,
+    }
+}
+
+fn is_place_behind(first: &Expr, suffixes: &[Suffix]) -> bool
+    ensures { result ≡ (not (grammar.is_arrow (tree_of first.now)) && spec.ends_in_place (map suffix_of suffixes.now)) }
+{
+    !is_arrow(first) && ends_in_place(suffixes)
+}
+
+fn is_variable_leaf(leaf: Leaf) -> bool
+    ensures { result ≡ spec.is_variable_leaf leaf }
+{
+    match leaf {
+        Leaf::Variable => true,
+        _ => false,
+    }
+}
+
+/// Whether the operator may assign to it.
+pub fn is_assignable(operator: AssignmentOperator, e: &Expr) -> bool
+    ensures { result ≡ grammar.is_assignable operator (tree_of e.now) }
+{
+    match &e.form {
+        Form::Leaf(leaf) => is_variable_leaf(*leaf),
+        Form::Brackets(_) => false,
+        Form::Array { .. } => takes_pattern(operator),
+        Form::IsSet { .. } => false,
+        Form::Empty(_) => false,
+        Form::Exit(_) => false,
+        Form::New(..) => false,
+        Form::Match { .. } => false,
+        Form::Closure { .. } => false,
+        Form::Arrow { .. } => false,
+        Form::Text(_) => false,
+        Form::Post(first, suffixes) => is_place_behind(first.get(), suffixes.as_slice()),
+        Form::Prefix(..) => false,
+        Form::Assignment(..) => false,
+        Form::Chain(..) => false,
+        Form::Binary(..) => false,
+        Form::Conditional(..) => false,
+    }
+}

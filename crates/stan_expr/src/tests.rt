@@ -1,0 +1,5 @@
+//! Tests of `expression` over texts.
+
+mod depth;
+mod reading;
+mod texts;

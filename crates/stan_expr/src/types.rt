@@ -1,0 +1,152 @@
+//! Written types, and what stands before a parameter.
+
+ghost use Rattle.std.specs.Prelude.{◌≡◌};
+ghost use Rattle.stan_base.specs.model.PhpStrata as strata;
+ghost use Rattle.stan_expr.specs.Gives.{Gives, at, turn};
+ghost use Rattle.stan_expr.specs.Parse as parse;
+ghost use Rattle.stan_syntax.specs.Tree.{type_of, may_type};
+
+use crate::places::{after, kind_at, token_at};
+use crate::stop::Stop;
+use crate::strata::{names_type, visibility_of};
+use sqlite_items::Items;
+use stan_base::operators::Visibility;
+use stan_base::php::{Token, TokenKind};
+use stan_syntax::TypeTree;
+use std::alloc::Global;
+
+#[tactic(auto, unfolding(crate::specs::Parse::type_name))]
+fn type_name(tokens: &[Token], at: usize) -> Result<(Token, usize), Stop>
+    ensures { Gives (λ x. x) result (parse.type_name tokens.now at) }
+{
+    let Some(token) = token_at(tokens, at) else {
+        return Err(Stop::Absent);
+    };
+    if names_type(token.kind) {
+        Ok((token, at + 1))
+    } else {
+        Err(Stop::Absent)
+    }
+}
+
+/// A further name, if a `|` comes next.
+#[tactic(auto, unfolding(crate::specs::Parse::alternative))]
+fn alternative(tokens: &[Token], at: usize) -> Result<Option<(Token, usize)>, Stop>
+    ensures { Gives (λ x. x) result (parse.alternative tokens.now at) }
+{
+    match after(tokens, TokenKind::Bar, at) {
+        None => Ok(None),
+        Some(to) => Ok(Some(type_name(tokens, to)?)),
+    }
+}
+
+#[tactic(auto, unfolding(crate::specs::Parse::alternatives, crate::specs::Parse::all))]
+fn alternatives(alloc: Global, tokens: &[Token], at: usize) -> Result<(Items<Token>, usize), Stop>
+    ensures { Gives (λ x. x) result (parse.alternatives tokens.now at) }
+{
+    let mut found = Items::new(alloc);
+    let mut place = at;
+    for _turn in 0..tokens.len() + 1 {
+        match alternative(tokens, place)? {
+            None => return Ok((found, place)),
+            Some((item, to)) => {
+                found.push(item)?;
+                place = to;
+            }
+        }
+    }
+    Err(Stop::Absent)
+}
+
+#[tactic(auto, unfolding(crate::specs::Parse::union))]
+fn union(alloc: Global, tokens: &[Token], place: usize) -> Result<(TypeTree, usize), Stop>
+    ensures { Gives (at type_of) result (parse.union tokens.now place) }
+{
+    let (name, to) = type_name(tokens, place)?;
+    let (more, to) = alternatives(alloc, tokens, to)?;
+    Ok((TypeTree::Union(name, more), to))
+}
+
+#[tactic(auto, unfolding(crate::specs::Parse::nullable))]
+fn nullable(tokens: &[Token], first: Token, place: usize) -> Result<(TypeTree, usize), Stop>
+    ensures { Gives (at type_of) result (parse.nullable tokens.now first place) }
+{
+    let (name, to) = type_name(tokens, place)?;
+    Ok((TypeTree::Nullable(first, name), to))
+}
+
+#[tactic(auto, unfolding(crate::specs::Parse::type_tree, crate::specs::Places::same_kind))]
+fn type_tree(alloc: Global, tokens: &[Token], place: usize) -> Result<(TypeTree, usize), Stop>
+    ensures { Gives (at type_of) result (parse.type_tree tokens.now place) }
+{
+    match token_at(tokens, place) {
+        None => Err(Stop::Absent),
+        Some(first) if first.kind == TokenKind::Question => nullable(tokens, first, place + 1),
+        Some(_) => union(alloc, tokens, place),
+    }
+}
+
+#[tactic(auto, unfolding(crate::specs::Parse::some_type))]
+fn some_type(
+    alloc: Global,
+    tokens: &[Token],
+    place: usize,
+) -> Result<(Option<TypeTree>, usize), Stop>
+    ensures { Gives (at may_type) result (parse.some_type tokens.now place) }
+{
+    let (declared, to) = type_tree(alloc, tokens, place)?;
+    Ok((Some(declared), to))
+}
+
+fn begins_type(tokens: &[Token], place: usize) -> bool
+    ensures { result ≡ parse.begins_type tokens.now (strata.kind_at tokens.now place) }
+{
+    match kind_at(tokens, place) {
+        TokenKind::Question => true,
+        kind => names_type(kind),
+    }
+}
+
+/// A type, if one begins there.
+#[tactic(auto, unfolding(crate::specs::Parse::may_type))]
+pub fn may_type(
+    alloc: Global,
+    tokens: &[Token],
+    place: usize,
+) -> Result<(Option<TypeTree>, usize), Stop>
+    ensures { Gives (at may_type) result (parse.may_type tokens.now place) }
+{
+    if begins_type(tokens, place) {
+        some_type(alloc, tokens, place)
+    } else {
+        Ok((None, place))
+    }
+}
+
+/// The type behind a `:`, if one stands there.
+#[tactic(auto, unfolding(crate::specs::Parse::may_return))]
+pub fn may_return(
+    alloc: Global,
+    tokens: &[Token],
+    place: usize,
+) -> Result<(Option<TypeTree>, usize), Stop>
+    ensures { Gives (at may_type) result (parse.may_return tokens.now place) }
+{
+    match after(tokens, TokenKind::Colon, place) {
+        Some(to) => some_type(alloc, tokens, to),
+        None => Ok((None, place)),
+    }
+}
+
+#[tactic(auto, unfolding(crate::specs::Parse::visibility, stan_base::specs::model::PhpStrata::kind_at))]
+pub fn visibility_at(tokens: &[Token], place: usize) -> (Option<Visibility>, usize)
+    ensures { result ≡ parse.visibility tokens.now place }
+{
+    let Some(token) = token_at(tokens, place) else {
+        return (None, place);
+    };
+    match visibility_of(token.kind) {
+        None => (None, place),
+        Some(visibility) => (Some(visibility), place + 1),
+    }
+}
