@@ -18,10 +18,6 @@ mod runs;
 #[cfg(test)]
 mod slow;
 #[cfg(test)]
-mod slow_texts;
-#[cfg(test)]
-mod slow_words;
-#[cfg(test)]
 mod tests;
 mod tokens;
 mod values;

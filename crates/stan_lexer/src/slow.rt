@@ -2,11 +2,14 @@
 //! a bracket is read with all that stands in it. Every short source over a few pieces is read with it, and `lex` gives the same
 //! tokens.
 
-use crate::slow_texts::{begins_long, comment_kind, ends_file, piece_kind, text_kind};
-use crate::slow_words::{is_keyword, mark_kind, word_kind};
+mod texts;
+mod words;
+
 use crate::{TokenKind, lex};
 use std::alloc::Global;
 use std::test::Fail;
+use texts::{begins_long, comment_kind, ends_file, piece_kind, text_kind};
+use words::{is_keyword, mark_kind, word_kind};
 
 /// The kind, the start and the end of a token.
 type Found = (TokenKind, usize, usize);

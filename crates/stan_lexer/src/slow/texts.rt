@@ -1,7 +1,7 @@
 //! Plain tests of texts, heredocs and comments, by all their bytes and those behind them.
 
+use super::words::{begins_word, continues_word, is_integer, is_variable, is_word};
 use crate::TokenKind;
-use crate::slow_words::{begins_word, continues_word, is_integer, is_variable, is_word};
 
 // Whether what stands behind some bytes of a text is escaped: an odd number of `\` ends them.
 fn escapes(before: &str) -> bool {
@@ -139,7 +139,7 @@ fn heredoc_kind(text: &str, behind: &str) -> Option<TokenKind> {
 }
 
 /// The kind of the text without insertions that some bytes are.
-pub fn text_kind(text: &str, behind: &str) -> Option<TokenKind> {
+pub(super) fn text_kind(text: &str, behind: &str) -> Option<TokenKind> {
     if is_single_quoted(text) {
         Some(TokenKind::SingleQuoted)
     } else if is_double_quoted(text) {
@@ -156,7 +156,7 @@ fn is_remark(text: &str, behind: &str) -> bool {
 }
 
 /// The kind of the comment that some bytes are.
-pub fn comment_kind(text: &str, behind: &str) -> Option<TokenKind> {
+pub(super) fn comment_kind(text: &str, behind: &str) -> Option<TokenKind> {
     if is_remark(text, behind) {
         return Some(TokenKind::Comment);
     }
@@ -174,12 +174,12 @@ pub fn comment_kind(text: &str, behind: &str) -> Option<TokenKind> {
 }
 
 /// Whether a `?>` may stand before these bytes.
-pub fn ends_file(behind: &str) -> bool {
+pub(super) fn ends_file(behind: &str) -> bool {
     matches!(behind, "" | "\n" | "\r\n")
 }
 
 /// Whether something begins that no mark may stand for, though it may not end.
-pub fn begins_long(rest: &str) -> bool {
+pub(super) fn begins_long(rest: &str) -> bool {
     rest.starts_with("?>") || rest.starts_with("/*") || begins_heredoc(rest)
 }
 
@@ -209,7 +209,7 @@ fn inserted_kind(text: &str) -> Option<TokenKind> {
 }
 
 /// The kind of the insertion or the fixed bytes that stand between two places of a text with insertions.
-pub fn piece_kind(source: &str, from: usize, to: usize) -> Option<TokenKind> {
+pub(super) fn piece_kind(source: &str, from: usize, to: usize) -> Option<TokenKind> {
     let behind = source.get(to..).unwrap_or("");
     let ends = behind.starts_with('"') || begins_insertion(behind);
     if ends && are_fixed(source, from, to) {

@@ -12,7 +12,7 @@ fn row_of(rows: &[(&str, TokenKind)], text: &str) -> Option<TokenKind> {
     None
 }
 
-pub fn is_keyword(kind: TokenKind) -> bool {
+pub(super) fn is_keyword(kind: TokenKind) -> bool {
     for (_, keyword) in &KEYWORDS {
         if *keyword == kind {
             return true;
@@ -26,7 +26,7 @@ fn is_word_byte(byte: u8) -> bool {
 }
 
 /// Whether the first byte belongs to an identifier.
-pub fn continues_word(rest: &str) -> bool {
+pub(super) fn continues_word(rest: &str) -> bool {
     match rest.as_bytes().first() {
         Some(byte) => is_word_byte(*byte),
         None => false,
@@ -34,7 +34,7 @@ pub fn continues_word(rest: &str) -> bool {
 }
 
 /// Whether the first byte begins an identifier.
-pub fn begins_word(rest: &str) -> bool {
+pub(super) fn begins_word(rest: &str) -> bool {
     match rest.as_bytes().first() {
         Some(byte) => is_word_byte(*byte) && !byte.is_ascii_digit(),
         None => false,
@@ -42,7 +42,7 @@ pub fn begins_word(rest: &str) -> bool {
 }
 
 /// Whether all bytes are one identifier.
-pub fn is_word(text: &str) -> bool {
+pub(super) fn is_word(text: &str) -> bool {
     for byte in text.as_bytes() {
         if !is_word_byte(*byte) {
             return false;
@@ -70,7 +70,7 @@ fn name_kind(text: &str) -> TokenKind {
     }
 }
 
-pub fn is_variable(text: &str) -> bool {
+pub(super) fn is_variable(text: &str) -> bool {
     match text.strip_prefix('$') {
         Some(name) => is_word(name),
         None => false,
@@ -101,7 +101,7 @@ fn are_digits(text: &str, base: u8) -> bool {
 }
 
 /// Whether all bytes are one integer. No source here has one past the greatest.
-pub fn is_integer(text: &str) -> bool {
+pub(super) fn is_integer(text: &str) -> bool {
     if let Some(digits) = text.strip_prefix("0x") {
         return are_digits(digits, 16);
     }
@@ -137,7 +137,7 @@ fn cast_of(text: &str) -> Option<TokenKind> {
 }
 
 /// The kind of the word or number that a text is.
-pub fn word_kind(text: &str) -> Option<TokenKind> {
+pub(super) fn word_kind(text: &str) -> Option<TokenKind> {
     if is_variable(text) {
         Some(TokenKind::Variable)
     } else if is_name(text) {
@@ -156,7 +156,7 @@ fn mark_of(text: &str) -> Option<TokenKind> {
 }
 
 /// The kind of the cast, operator or mark that a text is. No mark is longer than three bytes.
-pub fn mark_kind(text: &str) -> Option<TokenKind> {
+pub(super) fn mark_kind(text: &str) -> Option<TokenKind> {
     if text.len() > 3 {
         cast_of(text)
     } else {
