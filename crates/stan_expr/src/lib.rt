@@ -21,4 +21,4 @@ mod tests;
 mod types;
 
 pub use parser::{MAX_DEPTH, Parsed, expression};
-pub use stop::Stop;
+pub use places::{after, kind_at, token_at};

@@ -26,29 +26,30 @@ impl Expr {
     {
         expr_depth(self)
     }
-}
 
-fn is_operation(e: &Expr) -> bool
-    ensures { result ≡ model.is_operation (tree_of e.now) }
-{
-    match &e.form {
-        Form::Leaf(_) => false,
-        Form::Brackets(_) => false,
-        Form::Array { .. } => false,
-        Form::IsSet { .. } => false,
-        Form::Empty(_) => false,
-        Form::Exit(_) => false,
-        Form::New(..) => false,
-        Form::Match { .. } => false,
-        Form::Closure { .. } => false,
-        Form::Arrow { .. } => false,
-        Form::Text(_) => false,
-        Form::Post(..) => false,
-        Form::Prefix(..) => true,
-        Form::Assignment(..) => true,
-        Form::Chain(..) => true,
-        Form::Binary(..) => true,
-        Form::Conditional(..) => true,
+    /// Whether it is an operator with its operands.
+    pub fn is_operation(&self) -> bool
+        ensures { result ≡ model.is_operation (tree_of self.now) }
+    {
+        match &self.form {
+            Form::Leaf(_) => false,
+            Form::Brackets(_) => false,
+            Form::Array { .. } => false,
+            Form::IsSet { .. } => false,
+            Form::Empty(_) => false,
+            Form::Exit(_) => false,
+            Form::New(..) => false,
+            Form::Match { .. } => false,
+            Form::Closure { .. } => false,
+            Form::Arrow { .. } => false,
+            Form::Text(_) => false,
+            Form::Post(..) => false,
+            Form::Prefix(..) => true,
+            Form::Assignment(..) => true,
+            Form::Chain(..) => true,
+            Form::Binary(..) => true,
+            Form::Conditional(..) => true,
+        }
     }
 }
 
@@ -79,7 +80,7 @@ fn left_depth(e: &Expr) -> u32
     ensures { result ≡ min (model.left_depth (model.is_operation (tree_of e.now)) (model.depth (tree_of e.now))) (2 ^ 32 - 1) }
 {
     let depth = form_depth(&e.form);
-    if is_operation(e) {
+    if e.is_operation() {
         depth.saturating_add(1)
     } else {
         depth

@@ -7,7 +7,7 @@ use std::alloc::Global;
 use std::test::Fail;
 
 // The tokens of a text, or none where it is large.
-fn tokens(alloc: Global, source: &str) -> Result<Vec<Token>, Fail> {
+pub fn tokens(alloc: Global, source: &str) -> Result<Vec<Token>, Fail> {
     if source.len() > 1048576 {
         return Ok(Vec::new(alloc));
     }

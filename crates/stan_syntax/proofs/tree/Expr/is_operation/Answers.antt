@@ -1,6 +1,6 @@
 use Rattle.std.proofs.Common.{refl}
 use Rattle.stan_syntax.proofs.Layers.{tree_fields, form-Array, form-Arrow, form-Assignment, form-Binary, form-Brackets, form-Chain, form-Closure, form-Conditional, form-Empty, form-Exit, form-IsSet, form-Leaf, form-Match, form-New, form-Post, form-Prefix, form-Text}
-use Rattle.stan_syntax.proofs.depth.is_operation.Goals as goal
+use Rattle.stan_syntax.proofs.tree.Expr.is_operation.Goals as goal
 
 pub returns-in-Leaf : goal.returns-in-Leaf
 returns-in-Leaf c = rw (tree_fields, c.in-Leaf.is, form-Leaf) refl
