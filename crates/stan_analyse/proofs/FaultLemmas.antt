@@ -10,12 +10,11 @@ use Rattle.std.specs.Cmp.Lexicographic.{texts_ties}
 use Rattle.std.specs.List.Retain.{IsFiltered, DiffersFromLast}
 use Rattle.std.specs.List.Sorted.{IsSorted, IsPermutation}
 use Rattle.std.proofs.lemmas.List.Filters.{dedup_is}
+use Rattle.stan_base.specs.declared.php.Token.{Token}
 use Rattle.stan_base.specs.model.Faults.{CallFact, fault_cmp, fact_of_call, function_not_found, in_order}
 use Rattle.stan_base.specs.model.Table as model
 use Rattle.stan_base.specs.model.Table.{answer_of}
 use Rattle.stan_base.specs.declared.ask_kind.AskKind.TheVariants as kinds
-use Rattle.stan_analyse.specs.declared.tree.Call.{Call}
-use Rattle.stan_analyse.specs.Tree.{call_of}
 use Rattle.stan_analyse.specs.Faults.{fact_fault, call_faults}
 use Rattle.stan_base.proofs.Orders.{fault_cmp_total, fault_cmp-IsAntisymmetric, in_order_is}
 use Rattle.stan_base.proofs.SortLemmas.{IsStrictlySortedBy-sorted_once, Contains-sorted_once, Contains-from_sorted_once}
@@ -54,34 +53,33 @@ module _ (table : List model.Exported) (source : List ℕ) where
       (λ n. rw n refl)
       (cases_Bool (is_fault fact))
 
-  call_faults-append : (calls others : List Call) → call_faults table source (map call_of (calls ++ others)) ≡ call_faults table source (map call_of calls) ++ call_faults table source (map call_of others)
+  call_faults-append : (calls others : List Token) → call_faults table source (calls ++ others) ≡ call_faults table source calls ++ call_faults table source others
   call_faults-append calls others =
-      ap (λ cs. call_faults table source cs) (map-append call_of calls others)
-      ∙ ap (λ facts. map function_not_found (filter is_fault facts)) (map-append (fact_of_call source) (map call_of calls) (map call_of others))
-      ∙ ap (map function_not_found) (filter-append is_fault (map (fact_of_call source) (map call_of calls)) (map (fact_of_call source) (map call_of others)))
+      ap (λ facts. map function_not_found (filter is_fault facts)) (map-append (fact_of_call source) calls others)
+      ∙ ap (map function_not_found) (filter-append is_fault (map (fact_of_call source) calls) (map (fact_of_call source) others))
       ∙ map-append function_not_found _ _
 
-  module _ (calls : List Call) (i : ℕ) (d : Call) (within : i < length calls) where
+  module _ (calls : List Token) (i : ℕ) (d : Token) (within : i < length calls) where
     abbrev fact : CallFact
-    fact = fact_of_call source (call_of (get_or calls i d))
+    fact = fact_of_call source (get_or calls i d)
 
-    call_faults-more : call_faults table source (map call_of (take (i + 1) calls)) ≡ call_faults table source (map call_of (take i calls)) ++ option_to_list (fact_fault table fact)
+    call_faults-more : call_faults table source (take (i + 1) calls) ≡ call_faults table source (take i calls) ++ option_to_list (fact_fault table fact)
     call_faults-more =
-        ap (λ cs. call_faults table source (map call_of cs)) (take_more calls i d within)
+        ap (λ cs. call_faults table source cs) (take_more calls i d within)
         ∙ call_faults-append (take i calls) (get_or calls i d ∷ [])
-        ∙ ap (λ fs. call_faults table source (map call_of (take i calls)) ++ fs) (found_in_one fact)
+        ∙ ap (λ fs. call_faults table source (take i calls) ++ fs) (found_in_one fact)
 
-    module _ (faults : List Fault) (found : Option Fault) (before : map fault_of faults ≡ call_faults table source (map call_of (take i calls))) (finds : option_map fault_of found ≡ fact_fault table fact) where
-      pub fault_found : (fault : Fault) → found ≡ Some fault → map fault_of (faults ++ fault ∷ []) ≡ call_faults table source (map call_of (take (i + 1) calls))
+    module _ (faults : List Fault) (found : Option Fault) (before : map fault_of faults ≡ call_faults table source (take i calls)) (finds : option_map fault_of found ≡ fact_fault table fact) where
+      pub fault_found : (fault : Fault) → found ≡ Some fault → map fault_of (faults ++ fault ∷ []) ≡ call_faults table source (take (i + 1) calls)
       fault_found fault is =
           map-append fault_of faults (fault ∷ [])
           ∙ ap (λ fs. fs ++ fault_of fault ∷ []) before
-          ∙ ap (λ fs. call_faults table source (map call_of (take i calls)) ++ option_to_list fs) (ap (option_map fault_of) (sym is) ∙ finds)
+          ∙ ap (λ fs. call_faults table source (take i calls) ++ option_to_list fs) (ap (option_map fault_of) (sym is) ∙ finds)
           ∙ sym call_faults-more
 
-      pub no_fault_found : ((fault : Fault) → found ≡ Some fault → ⊥) → map fault_of faults ≡ call_faults table source (map call_of (take (i + 1) calls))
+      pub no_fault_found : ((fault : Fault) → found ≡ Some fault → ⊥) → map fault_of faults ≡ call_faults table source (take (i + 1) calls)
       no_fault_found none =
           before
-          ∙ sym (append-nil (call_faults table source (map call_of (take i calls))))
-          ∙ ap (λ fs. call_faults table source (map call_of (take i calls)) ++ option_to_list fs) (ap (option_map fault_of) (sym (none_left found none)) ∙ finds)
+          ∙ sym (append-nil (call_faults table source (take i calls)))
+          ∙ ap (λ fs. call_faults table source (take i calls) ++ option_to_list fs) (ap (option_map fault_of) (sym (none_left found none)) ∙ finds)
           ∙ sym call_faults-more

@@ -1,7 +1,7 @@
--- The faults of calls, in the order in which the calls stand.
+-- The faults of calls, in the order in which the calls are listed.
 use Rattle.std.specs.Prelude.{ℕ, if◌then◌else◌, List, Option, Some, None, map, filter, is_none}
 use Rattle.stan_base.specs.declared.ask_kind.AskKind.TheVariants as kinds
-use Rattle.stan_base.specs.model.Grammar.{Call}
+use Rattle.stan_base.specs.declared.php.Token.{Token}
 use Rattle.stan_base.specs.model.Table.{Exported, answer_of}
 use Rattle.stan_base.specs.model.Faults.{Fault, CallFact, fact_of_call, function_not_found}
 
@@ -9,5 +9,5 @@ use Rattle.stan_base.specs.model.Faults.{Fault, CallFact, fact_of_call, function
 abbrev pub fact_fault : List Exported → CallFact → Option Fault
 fact_fault table fact = if is_none (answer_of table kinds.Function fact.name) then Some (function_not_found fact) else None
 
-abbrev pub call_faults : List Exported → List ℕ → List Call → List Fault
+abbrev pub call_faults : List Exported → List ℕ → List Token → List Fault
 call_faults table source calls = map function_not_found (filter (λ fact. is_none (answer_of table kinds.Function fact.name)) (map (fact_of_call source) calls))

@@ -1,3 +1,8 @@
 pub mod Faults
-pub mod Tree
+pub mod Laws
+pub mod Lines
+pub mod Names
 pub mod Parser
+pub mod Sites
+pub mod Statements
+pub mod Tree

@@ -1,75 +1,100 @@
 -- What the parts of the parser find at a place of a list of tokens.
-use Rattle.std.specs.Prelude.{◌≡◌, ℕ, ◌+◌, ◌<◌, ◌≤◌, List, [], ◌∷◌, ◌++◌, Option, Some, None, map, length}
-use Rattle.stan_base.specs.declared.token.Token.{Token}
-use Rattle.stan_base.specs.declared.token.TokenKind.{TokenKind}
-use Rattle.stan_base.specs.declared.token.TokenKind.TheVariants as kinds
-use Rattle.stan_base.specs.model.Grammar as model
-use Rattle.stan_analyse.specs.declared.tree.Call.{Call}
-use Rattle.stan_analyse.specs.declared.parser.Body.{Body}
-use Rattle.stan_analyse.specs.declared.parser.Head.{Head}
-use Rattle.stan_analyse.specs.declared.parser.Read.{Read}
+use Rattle.std.specs.Prelude.{◌≡◌, ℕ, ◌+◌, ◌<◌, ◌≤◌, Bool, true, false, IsTrue, List, [], ◌∷◌, ◌++◌, Option, Some, None, map, length}
+use Rattle.std.specs.List.{flat_map}
+use Rattle.stan_base.specs.declared.php.Token.{Token}
+use Rattle.stan_base.specs.declared.php.TokenKind.{TokenKind}
+use Rattle.stan_base.specs.declared.php.TokenKind.TheVariants as kinds
+use Rattle.stan_base.specs.model.PhpTrees.{Tree}
+use Rattle.stan_base.specs.model.PhpStrata.{kind_at}
+use Rattle.stan_base.specs.model.PhpGrammar.{Is, Stands}
+use Rattle.stan_base.specs.model.PhpDepth.{depth}
+use Rattle.stan_base.specs.model.PhpTakes.{IsTreeOf}
+use Rattle.stan_base.specs.model.Sites as model
+use Rattle.stan_base.specs.model.Grammar.{Statement, Statements, Bodies, Top, ends_statement, ReadsStatement, ReadsStatements, ReadsBodies, ReadsTop, ReadsTops, SpellsFile, IsLongestFront}
+use Rattle.stan_base.specs.model.Faults.{calls_of_statement, calls_of_statements, calls_of_bodies, calls_of_top}
 use Rattle.stan_analyse.specs.declared.parser.Front.{Front}
-use Rattle.stan_analyse.specs.Tree.{call_of, top_of}
+use Rattle.stan_analyse.specs.declared.parser.Front.TheVariants.{Whole, Part}
+use Rattle.stan_analyse.specs.declared.parser.Plain.{Plain}
+use Rattle.stan_analyse.specs.declared.tree.Names.{Names}
+use Rattle.stan_analyse.specs.Names.{names_of_top}
+use Rattle.stan_analyse.specs.Sites.{site_of}
+
+-- the names that tops declare and call
+pub record AreNames (tops : List Top) (names : Names) : Type 0 where
+  pub declared : names.declared.items ≡ flat_map names_of_top tops
+  pub called : names.called.items ≡ flat_map calls_of_top tops
 
 module _ (ts : List Token) where
+  -- an expression and what ends it
+  abbrev pub IsPlain : ℕ → ℕ → Tree → ℕ → Type 0
+  IsPlain levels at e end = IsTreeOf ts e at end × (depth e + levels ≤ 200) × IsTrue (ends_statement (kind_at ts end))
+
+  -- the expression that begins at a place with what ends it, or none where none begins
+  abbrev pub PlainAt : ℕ → ℕ → Option Plain → Type 0
+  PlainAt levels at None = (e : Tree) (end : ℕ) → IsPlain levels at e end → ⊥
+  PlainAt levels at (Some plain) = (e : Tree) × (end : ℕ) × IsPlain levels at e end × (plain.to ≡ end + 1) × (map site_of plain.sites.items ≡ model.sites 0 e)
+
+  -- the place behind the statement that begins at a place, whose calls are put behind others, or none where none begins
+  abbrev pub StatementAt : ℕ → ℕ → List Token → List Token → Option ℕ → Type 0
+  StatementAt levels at before after None = (s : Statement) (to : ℕ) → ReadsStatement ts levels s at to → ⊥
+  StatementAt levels at before after (Some to) = (s : Statement) × ReadsStatement ts levels s at to × (after ≡ before ++ calls_of_statement s)
+
+  -- whether bodies hold statements, whose calls are put behind others
+  abbrev pub BodiesAre : ℕ → List model.HeldBody → List Token → List Token → Bool → Type 0
+  BodiesAre levels held before after false = (bodies : Bodies) → ReadsBodies ts levels bodies held → ⊥
+  BodiesAre levels held before after true = (bodies : Bodies) × ReadsBodies ts levels bodies held × (after ≡ before ++ calls_of_bodies bodies)
+
+  -- statements with the brace behind them
+  abbrev pub IsBlock : ℕ → Statements → ℕ → ℕ → Type 0
+  IsBlock levels ss from to = ReadsStatements ts levels ss from to × Is ts to kinds.RightBrace
+
+  -- whether a body holds statements
+  abbrev pub BodyIs : ℕ → model.HeldBody → List Token → List Token → Bool → Type 0
+  BodyIs levels held before after false = (ss : Statements) → IsBlock (levels + held.levels + 1) ss held.first held.last → ⊥
+  BodyIs levels held before after true = (ss : Statements) × IsBlock (levels + held.levels + 1) ss held.first held.last × (after ≡ before ++ calls_of_statements ss)
+
+  -- the place of the brace behind the statements from a place on
+  abbrev pub BlockAt : ℕ → ℕ → List Token → List Token → Option ℕ → Type 0
+  BlockAt levels from before after None = (ss : Statements) (to : ℕ) → IsBlock levels ss from to → ⊥
+  BlockAt levels from before after (Some to) = (ss : Statements) × IsBlock levels ss from to × (after ≡ before ++ calls_of_statements ss)
+
   -- the token at a place if it is of that kind
   abbrev pub TokenAt : ℕ → TokenKind → Option Token → Type 0
-  TokenAt at kind None = ¬ (model.Is ts at kind)
-  TokenAt at kind (Some t) = model.Stands ts at t × model.Is ts at kind × (at < length ts)
+  TokenAt at kind None = ¬ (Is ts at kind)
+  TokenAt at kind (Some t) = Stands ts at t × Is ts at kind × (at < length ts)
 
-  abbrev pub NoCallAt : ℕ → Type 0
-  NoCallAt at = (call : model.Call) (to : ℕ) → model.ReadsCall ts call at to → ⊥
+  -- the kinds of the tokens before the body of a function
+  abbrev pub OpensFunction : ℕ → Type 0
+  OpensFunction at = Is ts at kinds.Function × Is ts (at + 1) kinds.Identifier × Is ts (at + 2) kinds.LeftParenthesis × Is ts (at + 3) kinds.RightParenthesis × Is ts (at + 4) kinds.LeftBrace
 
-  -- the call that begins at a place, or none where none begins
-  abbrev pub CallAt : ℕ → Option Call → Type 0
-  CallAt at None = NoCallAt at
-  CallAt at (Some call) = model.ReadsCall ts (call_of call) at (at + 4) × (at + 4 ≤ length ts)
+  -- the name of the function that opens at a place, or none where none opens
+  abbrev pub HeadAt : ℕ → Option Token → Type 0
+  HeadAt at None = ¬ (OpensFunction at)
+  HeadAt at (Some name) = OpensFunction at × Stands ts (at + 1) name × (at + 5 ≤ length ts)
 
   abbrev pub NoTopAt : ℕ → Type 0
-  NoTopAt at = (top : model.Top) (to : ℕ) → model.ReadsTop ts top at to → ⊥
+  NoTopAt at = (top : Top) (to : ℕ) → ReadsTop ts top at to → ⊥
 
-  -- the kinds of the tokens before a body
-  abbrev pub OpensFunction : ℕ → Type 0
-  OpensFunction at = model.Is ts at kinds.Function × model.Is ts (at + 1) kinds.Identifier × model.Is ts (at + 2) kinds.LeftParenthesis × model.Is ts (at + 3) kinds.RightParenthesis
-      × model.Is ts (at + 4) kinds.LeftBrace
+  -- the place behind the top that begins at a place, whose names are put behind others, or none where none begins
+  abbrev pub TopAt : ℕ → Names → Names → Option ℕ → Type 0
+  TopAt at before after None = NoTopAt at
+  TopAt at before after (Some to) = (top : Top) × ReadsTop ts top at to × (after.declared.items ≡ before.declared.items ++ names_of_top top) × (after.called.items ≡ before.called.items ++ calls_of_top top)
 
-  -- what opens a function at a place, or none where none opens
-  abbrev pub HeadAt : ℕ → Option Head → Type 0
-  HeadAt at None = ¬ (OpensFunction at)
-  HeadAt at (Some head) = OpensFunction at × model.Stands ts at head.first × model.Stands ts (at + 1) head.name × (at + 5 ≤ length ts)
-
-  -- the calls from a place on, as many as stand there
-  pub record IsBody (from : ℕ) (body : Body) : Type 0 where
-    pub reads : model.ReadsCalls ts (map call_of body.calls.items) from body.to
-    pub stops : NoCallAt body.to
-    pub within : body.to ≤ length ts
-
-  -- the function that begins at a place, or none where none begins
-  abbrev pub FunctionAt : ℕ → Option Read → Type 0
-  FunctionAt at None = (first name : Token) (calls : List model.Call) (to : ℕ) → model.ReadsTop ts (model.Function first name calls) at to → ⊥
-  FunctionAt at (Some read) = model.ReadsTop ts (top_of read.top) at read.to × (read.to ≤ length ts)
-
-  -- the top that begins at a place, or none where none begins
-  abbrev pub TopAt : ℕ → Option Read → Type 0
-  TopAt at None = NoTopAt at
-  TopAt at (Some read) = model.ReadsTop ts (top_of read.top) at read.to × (read.to ≤ length ts)
-
+  -- the names that tops declare and call
   -- The last of the tops is read between two places.
-  abbrev pub EndsWithTop : List model.Top → ℕ → ℕ → Type 0
-  EndsWithTop tops last to = (before : List model.Top) × (top : model.Top) × (tops ≡ before ++ top ∷ []) × model.ReadsTops ts before 0 last × model.ReadsTop ts top last to
+  abbrev pub EndsWithTop : List Top → ℕ → ℕ → Type 0
+  EndsWithTop tops last to = (before : List Top) × (top : Top) × (tops ≡ before ++ top ∷ []) × ReadsTops ts before 0 last × ReadsTop ts top last to
 
   -- the same if there is a top
-  abbrev pub EndsAt : List model.Top → Option ℕ → ℕ → Type 0
+  abbrev pub EndsAt : List Top → Option ℕ → ℕ → Type 0
   EndsAt tops None to = tops ≡ []
   EndsAt tops (Some last) to = EndsWithTop tops last to
 
   -- the tops from the first token on, as many as stand there
-  pub record IsFrontOf (front : Front) : Type 0 where
-    pub reads : model.ReadsTops ts (map top_of front.tops.items) 0 front.to
-    pub stops : NoTopAt front.to
-    pub within : front.to ≤ length ts
-    pub last : EndsAt (map top_of front.tops.items) front.last front.to
+  abbrev pub IsFrontOf : Front → Type 0
+  IsFrontOf (Whole names) = (tops : List Top) × SpellsFile ts tops × AreNames tops names
+  IsFrontOf (Part last to) = (tops : List Top) × ReadsTops ts tops 0 to × NoTopAt to × EndsAt tops last to × (to < length ts)
 
   -- The longest front ends there.
   abbrev pub StopsAt : ℕ → Type 0
-  StopsAt to = (tops : List model.Top) × model.IsLongestFront ts tops to
+  StopsAt to = (tops : List Top) × IsLongestFront ts tops to

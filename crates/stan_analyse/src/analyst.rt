@@ -1,14 +1,15 @@
 //! The analyst of PHP source.
 
 ghost use Rattle.std.specs.Prelude.{◌≡◌, ◌≤◌, IfOk, map, length, vec_len};
-ghost use Rattle.stan_base.specs.model.Reading.{Reading, IsReading};
+ghost use Rattle.stan_base.specs.model.Reading as model;
 ghost use Rattle.stan_base.specs.model.Table.{exports_of};
 ghost use Rattle.stan_table.specs.Table.{node_of, IsVerdict};
 ghost use Rattle.stan_table.specs.Index.{index_table};
 
-use crate::exports::exports_of;
+use crate::exports::functions;
 use crate::faults::faults_of;
 use crate::reading::read;
+use crate::tree::Reading;
 use stan_base::OutOfMemory;
 use stan_table::{Exported, Index, Source, Verdict};
 use std::alloc::Global;
@@ -25,11 +26,13 @@ impl PhpAnalyst {
 
     /// What a source of any length declares, in order of place. A source that cannot be read declares nothing.
     pub fn exports(&mut self, alloc: Global, source: &[u8]) -> Result<Vec<Exported>, OutOfMemory>
-        ensures nodes { IfOk result (λ nodes. (reading : Reading) × IsReading source.now reading × (map node_of nodes.items ≡ exports_of source.now reading)) }
+        ensures nodes { IfOk result (λ nodes. (reading : model.Reading) × model.IsReading source.now reading × (map node_of nodes.items ≡ exports_of source.now reading)) }
         ensures few { IfOk result (λ nodes. vec_len nodes ≤ length source.now) }
     {
-        let reading = read(alloc, source)?;
-        exports_of(alloc, source, &reading)
+        match read(alloc, source)? {
+            Reading::Readable(names) => functions(alloc, source, names.declared.as_slice()),
+            Reading::TooLarge | Reading::NotUtf8 | Reading::Broken(_) => Ok(Vec::new(alloc)),
+        }
     }
 
     /// The verdict of a source of any length over the index's table. The rules so far hold at every level.
@@ -40,7 +43,7 @@ impl PhpAnalyst {
         level: u8,
         index: &Index,
     ) -> Result<Verdict, OutOfMemory>
-        ensures { IfOk result (λ verdict. (reading : Reading) × IsReading source.now.value.bytes.items reading
+        ensures { IfOk result (λ verdict. (reading : model.Reading) × model.IsReading source.now.value.bytes.items reading
             × IsVerdict (index_table index.now) source.now.value.bytes.items reading verdict) }
     {
         let _level = level;

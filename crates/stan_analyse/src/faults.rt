@@ -1,18 +1,21 @@
 //! The faults of a file over a whole table.
 
-ghost use Rattle.std.specs.Prelude.{◌≡◌, ◌+◌, ◌<◌, ◌≤◌, ◌^◌, ◌++◌, ◌==◌, IfOk, [], ◌∷◌, map, length, codes, count_by, option_map, string_bytes};
-ghost use Rattle.std.specs.List.{flat_map};
-ghost use Rattle.stan_base.specs.model.Bytes.{line_of};
-ghost use Rattle.stan_base.specs.model.Faults.{faults_of, fact_of_call, in_order, shown, unreadable, calls_of_top};
+ghost use Rattle.std.specs.Prelude.{◌≡◌, ◌<◌, ◌-◌, ◌^◌, ◌++◌, IfOk, [], ◌∷◌, map, length, codes, option_map, string_bytes};
+ghost use Rattle.std.specs.List.{All};
+ghost use Rattle.stan_base.specs.model.Faults.{fact_of_call, in_order, shown, unreadable};
 ghost use Rattle.stan_table.specs.Table.{fault_of};
 ghost use Rattle.stan_table.specs.Index.{index_table};
-ghost use Rattle.stan_analyse.specs.Tree.{call_of, top_of, reading_of, StandInOrder, LiesWithin};
 ghost use Rattle.stan_analyse.specs.Faults.{fact_fault, call_faults};
+ghost use Rattle.stan_analyse.specs.Lines.{AreFeeds};
+ghost use Rattle.stan_analyse.specs.Names.{IsWithin};
+ghost use Rattle.stan_analyse.specs.Tree.{IsReadAs, AreFaults};
 
+use crate::lines::LineFeeds;
 use crate::spelling::spelling_of;
-use crate::tree::{Call, Reading, Top};
+use crate::tree::Reading;
 use bstr::ByteSlice;
-use stan_base::{AskKind, Name, OutOfMemory, Token};
+use stan_base::php::Token;
+use stan_base::{AskKind, Name, OutOfMemory, resolved};
 use stan_table::{Ask, Fault, Index};
 use std::alloc::Global;
 
@@ -36,13 +39,12 @@ pub fn faults_of(
     reading: &Reading,
     index: &Index,
 ) -> Result<Vec<Fault>, OutOfMemory>
-    requires { LiesWithin (length source.now) (reading_of reading.now) }
-    ensures { IfOk result (λ faults. map fault_of faults.items ≡ faults_of (index_table index.now) source.now (reading_of reading.now)) }
+    requires { IsReadAs source.now reading.now }
+    ensures { IfOk result (λ faults. AreFaults (index_table index.now) source.now (map fault_of faults.items)) }
 {
     match reading {
-        Reading::Readable(tops) => {
-            let calls = calls_of(alloc, tops.as_slice())?;
-            in_order(call_faults(alloc, source, calls.as_slice(), index)?)
+        Reading::Readable(names) => {
+            in_order(call_faults(alloc, source, names.called.as_slice(), index)?)
         }
         Reading::TooLarge => unreadable(alloc, 1, TOO_LARGE),
         Reading::NotUtf8 => unreadable(alloc, 1, NOT_UTF8),
@@ -64,76 +66,53 @@ fn unreadable(alloc: Global, line: u32, text: &str) -> Result<Vec<Fault>, OutOfM
     Ok(faults)
 }
 
-// The calls of all tops, in order of place.
-fn calls_of(alloc: Global, tops: &[Top]) -> Result<Vec<Call>, OutOfMemory>
-    ensures { IfOk result (λ calls. map call_of calls.items ≡ flat_map calls_of_top (map top_of tops.now)) }
-{
-    let mut all = Vec::new(alloc);
-    for top in tops {
-        match top {
-            Top::Function { calls, .. } => all.extend_from_slice(calls.as_slice())?,
-            Top::Statement(call) => all.push(*call)?,
-        }
-    }
-    Ok(all)
-}
-
-// The faults of calls, in their order. The lines are counted from one call to the next.
+// The faults of calls, in their order.
 fn call_faults(
     alloc: Global,
     source: &[u8],
-    calls: &[Call],
+    calls: &[Token],
     index: &Index,
 ) -> Result<Vec<Fault>, OutOfMemory>
-    requires { StandInOrder 0 (length source.now) (map (λ call. call.name) calls.now) }
-    ensures { IfOk result (λ faults. map fault_of faults.items ≡ call_faults (index_table index.now) source.now (map call_of calls.now)) }
+    requires small { length source.now < 2 ^ 32 - 1 }
+    requires within { All (IsWithin source.now) calls.now }
+    ensures { IfOk result (λ faults. map fault_of faults.items ≡ call_faults (index_table index.now) source.now calls.now) }
 {
+    let feeds = LineFeeds::new(alloc, source)?;
     let mut faults = Vec::new(alloc);
-    let mut at = 0;
-    let mut line = 1;
     for call in calls {
-        let name = call.name;
-        let start = name.start as usize;
-        line += lines_between(source, at, start);
-        at = start;
-        if let Some(fault) = call_fault(alloc, source, name, line, index)? {
+        if let Some(fault) = call_fault(alloc, source, &feeds, call, index)? {
             faults.push(fault)?;
         }
     }
     Ok(faults)
 }
 
-// How many lines end between one place and a later one.
-fn lines_between(source: &[u8], from: usize, to: usize) -> u32
-    requires order { from ≤ to }
-    requires within { to ≤ length source.now }
-    requires small { to < 2 ^ 32 }
-    ensures { line_of source.now from + result ≡ line_of source.now to }
-{
-    line_feeds(&source[from..to])
-}
-
-fn line_feeds(bytes: &[u8]) -> u32
-    requires { length bytes.now < 2 ^ 32 }
-    ensures { result ≡ count_by (λ b. b == 10) bytes.now }
-{
-    bytes.iter().filter(|byte| **byte == b'\n').count() as u32
-}
-
-// The fault of a call by this name on this line, if the table lacks the function.
+// The fault of a call, if the table lacks the function.
 fn call_fault(
     alloc: Global,
     source: &[u8],
-    name: Token,
+    feeds: &LineFeeds,
+    call: &Token,
+    index: &Index,
+) -> Result<Option<Fault>, OutOfMemory>
+    requires small { length source.now < 2 ^ 32 - 1 }
+    requires feeds { AreFeeds source.now feeds.now }
+    requires within { IsWithin source.now call.now }
+    ensures { IfOk result (λ fault. option_map fault_of fault ≡ fact_fault (index_table index.now) (fact_of_call source.now call.now)) }
+{
+    let name = resolved(spelling_of(source, call));
+    name_fault(alloc, name, feeds.line_at(call.start), index)
+}
+
+// The fault of a call by this full name on this line, if the table lacks the function.
+fn name_fault(
+    alloc: Global,
+    name: &[u8],
     line: u32,
     index: &Index,
 ) -> Result<Option<Fault>, OutOfMemory>
-    requires order { name.start ≤ name.end }
-    requires within { name.end ≤ length source.now }
-    requires line { line ≡ line_of source.now name.start }
-    ensures { IfOk result (λ fault. option_map fault_of fault ≡ fact_fault (index_table index.now) (fact_of_call source.now (record { name = name }))) }
+    ensures { IfOk result (λ fault. option_map fault_of fault ≡ fact_fault (index_table index.now) (record { line = line; name = name.now })) }
 {
-    let name = spelling_of(source, &name);
     let ask = Ask::new(alloc, AskKind::Function, &Name::new(alloc, name)?)?;
     if index.find(&ask).is_some() {
         return Ok(None);
@@ -162,4 +141,49 @@ fn in_order(mut faults: Vec<Fault>) -> Result<Vec<Fault>, OutOfMemory>
     faults.sort()?;
     faults.dedup();
     Ok(faults)
+}
+
+#[cfg(test)]
+mod tests {
+    use super::*;
+    use crate::exports::functions;
+    use stan_base::php::TokenKind;
+    use std::test::Fail;
+
+    // A declaration and calls, without the marks.
+    const SOURCE: &[u8] = b"function f g\nF\n\ng\xff g\xff \\F \\A\\f namespace\\f";
+
+    fn name(kind: TokenKind, start: u32, end: u32) -> Token
+        ensures start { result.start ≡ start }
+        ensures end { result.end ≡ end }
+    {
+        Token { kind, start, end }
+    }
+
+    #[test]
+    fn names_are_resolved_and_shown(rt: HostRuntime) -> Result<(), Fail> {
+        let alloc = rt.alloc();
+        let declared = [name(TokenKind::Identifier, 9, 10)];
+        let called = [
+            name(TokenKind::Identifier, 11, 12),
+            name(TokenKind::Identifier, 13, 14),
+            name(TokenKind::Identifier, 16, 18),
+            name(TokenKind::Identifier, 19, 21),
+            name(TokenKind::FullyQualifiedName, 22, 24),
+            name(TokenKind::FullyQualifiedName, 25, 29),
+            name(TokenKind::RelativeName, 30, 41),
+        ];
+        let index = Index::build(alloc, functions(alloc, SOURCE, &declared)?)?;
+        let faults = in_order(call_faults(alloc, SOURCE, &called, &index)?)?;
+        assert_eq!(rt; faults.len(), 3);
+        for (fault, (line, text)) in faults.iter().zip([
+            (1, "Function g not found."),
+            (4, "Function A\\f not found."),
+            (4, "Function g\u{fffd} not found."),
+        ]) {
+            assert_eq!(rt; fault.line, line);
+            assert_eq!(rt; fault.text.as_str(), text);
+        }
+        Ok(())
+    }
 }

@@ -1,12 +1,14 @@
-//! The analysis of a file: its tokens, its tree, what it declares and its faults.
+//! The analysis of a file: its tokens, its statements, what it declares and its faults.
 #![tactic(auto)]
 
 mod analyst;
 mod exports;
 mod faults;
-mod lexer;
+pub mod laws;
+mod lines;
 mod parser;
 mod reading;
+mod sites;
 mod spelling;
 #[cfg(test)]
 mod tests;

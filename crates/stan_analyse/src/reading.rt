@@ -1,61 +1,48 @@
-//! The reading of a file: its tree, or why it cannot be read.
+//! The reading of a file: the names of its functions, or why it cannot be read.
 
-ghost use Rattle.std.specs.Prelude.{◌≡◌, ◌<◌, ◌≤◌, length, IsTrue, IfOk};
-ghost use Rattle.stan_base.specs.model.Reading.{IsReading, IsText, IsSyntaxErrorAt, has_opening_tag, largest_source};
-ghost use Rattle.stan_base.specs.model.Tokens.{AreTokens};
+ghost use Rattle.std.specs.Prelude.{◌≡◌, ◌<◌, ◌≤◌, length, IfOk};
+ghost use Rattle.stan_base.specs.model.Reading.{AreCode, IsText, IsSyntaxErrorAt};
 ghost use Rattle.stan_analyse.specs.Parser.{IsFrontOf};
-ghost use Rattle.stan_analyse.specs.Tree.{reading_of};
+ghost use Rattle.stan_analyse.specs.Tree.{IsReadAs};
 
-use crate::lexer::{is_blank, tokens};
 use crate::parser::{Front, read_front, stop};
 use crate::tree::Reading;
 use bstr::ByteSlice;
-use stan_base::{OutOfMemory, Token, line_at};
+use stan_base::php::Token;
+use stan_base::{OutOfMemory, line_at};
+use stan_lexer::{code_tokens, lex};
 use std::alloc::Global;
 
 /// The most bytes of a file that can be read.
 pub const LARGEST_SOURCE: usize = 1_048_576;
 
-// What a file begins with.
-const OPENING_TAG: &[u8] = b"<?php";
-
-// Whether a source begins with `<?php`, and then a blank or the end.
-fn has_opening_tag(source: &[u8]) -> bool
-    ensures { result ≡ has_opening_tag source.now }
-{
-    source.starts_with(OPENING_TAG)
-        && (source.len() == OPENING_TAG.len() || is_blank(source[OPENING_TAG.len()]))
-}
-
 // The line of the token that cannot be read.
-fn broken_line(source: &[u8], tokens: &[Token], front: &Front) -> u32
-    requires small { length source.now ≤ largest_source }
-    requires tokens { AreTokens source.now 5 tokens.now }
-    requires reads { IsFrontOf tokens.now front.now }
-    requires stops { front.now.to < length tokens.now }
+fn broken_line(source: &[u8], tokens: &[Token], last: Option<usize>, to: usize) -> u32
+    requires text { IsText source.now }
+    requires code { AreCode source.now tokens.now }
+    requires reads { IsFrontOf tokens.now (Front.Part last to) }
     ensures { IsSyntaxErrorAt source.now result }
 {
-    let at = stop(tokens, front);
+    let at = stop(tokens, last, to);
     line_at(source, tokens[at].start)
 }
 
-// The reading of a text behind its opening tag.
-fn read_tagged(alloc: Global, source: &[u8]) -> Result<Reading, OutOfMemory>
-    requires text { IsText source.now }
-    requires tagged { IsTrue (has_opening_tag source.now) }
-    ensures { IfOk result (λ reading. IsReading source.now (reading_of reading)) }
+// The reading of a text.
+fn read_text(alloc: Global, source: &[u8]) -> Result<Reading, OutOfMemory>
+    requires { IsText source.now }
+    ensures { IfOk result (IsReadAs source.now) }
 {
-    let tokens = tokens(alloc, source, OPENING_TAG.len())?;
-    let front = read_front(alloc, &tokens)?;
-    if front.to == tokens.len() {
-        return Ok(Reading::Readable(front.tops));
+    let all = lex(alloc, source)?;
+    let tokens = code_tokens(alloc, &all)?;
+    match read_front(alloc, &tokens)? {
+        Front::Whole(names) => Ok(Reading::Readable(names)),
+        Front::Part { last, to } => Ok(Reading::Broken(broken_line(source, &tokens, last, to))),
     }
-    Ok(Reading::Broken(broken_line(source, &tokens, &front)))
 }
 
-/// The reading of a source of any length. Size is looked at first, then UTF-8, then the opening tag.
+/// The reading of a source of any length. Size is looked at first, then UTF-8.
 pub fn read(alloc: Global, source: &[u8]) -> Result<Reading, OutOfMemory>
-    ensures { IfOk result (λ reading. IsReading source.now (reading_of reading)) }
+    ensures { IfOk result (IsReadAs source.now) }
 {
     if source.len() > LARGEST_SOURCE {
         return Ok(Reading::TooLarge);
@@ -63,34 +50,62 @@ pub fn read(alloc: Global, source: &[u8]) -> Result<Reading, OutOfMemory>
     if !source.is_utf8() {
         return Ok(Reading::NotUtf8);
     }
-    if !has_opening_tag(source) {
-        return Ok(Reading::Broken(1));
-    }
-    read_tagged(alloc, source)
+    read_text(alloc, source)
 }
 
 #[cfg(test)]
 mod tests {
     use super::*;
-    use crate::tree::{Call, Top};
+    use crate::tree::Names;
     use std::test::Fail;
 
-    // The sources with their trees, a function as `name{its calls}`, or with what keeps them from being read.
-    const CASES: [(&[u8], &[u8]); 16] = [
+    // The sources with the names that they declare and then those that they call, or with what keeps them from being read.
+    const CASES: [(&[u8], &[u8]); 35] = [
         (b"", b"broken at 1"),
-        (b"<?php", b""),
-        (b"<?php\n", b""),
+        (b"<?php", b"calls"),
+        (b"<?php\n", b"calls"),
         (b"<?PHP", b"broken at 1"),
         (b"<?phpx", b"broken at 1"),
         (b" <?php", b"broken at 1"),
-        (b"<?php function f() { a(); b(); } c();", b"f{a;b;}c;"),
-        (b"<?php\r\nfunction F(){}\r\nA\r\n()\r\n;\r\n", b"F{}A;"),
+        (b"\xef\xbb\xbf<?php f();", b"broken at 1"),
+        (b"#!php\n<?php f();", b"calls f"),
+        (b"#!php", b"broken at 1"),
+        (b"<?php function f() { a(); b(); } c();", b"f calls a b c"),
+        (b"<?php\r\nfunction F(){}\r\nA\r\n()\r\n;\r\n", b"F calls A"),
+        (
+            b"<?php function f() {} function g() {} f(g());",
+            b"f g calls f g",
+        ),
+        (b"<?php a(b(), [c(d())]);", b"calls a b c d"),
+        (b"<?php a(function () { c(); }, b());", b"calls a b c"),
+        (
+            b"<?php a(function () { b(function () { c(); }); d(); }); e();",
+            b"calls a b c d e",
+        ),
+        (
+            b"<?php \\f(namespace\\g(), A\\h());",
+            b"calls \\f namespace\\g A\\h",
+        ),
+        (
+            b"<?php \"{$a->b(f())}\" . 'g()'; // h()\n#[i()]\n",
+            b"calls f",
+        ),
+        (b"<?php (f)(); $f(); new f(); $a->f(); A::f(); f;", b"calls"),
+        (b"<?php ?>\n", b"calls"),
+        (b"<?php f() ?>", b"calls f"),
+        (b"<?php\nf();\n?>\n\n", b"broken at 3"),
+        (b"<?php\nf();\n?>\n<?php\ng();", b"broken at 3"),
         (b"<?php\nf();\ng(", b"broken at 3"),
+        (b"<?php\nf();\ng()\nh();", b"broken at 3"),
         (b"<?php\nf();\nfunction g() { a();", b"broken at 3"),
+        (b"<?php\nf();\n$a = [\nfunction () {\n1 }];", b"broken at 3"),
+        (b"<?php\nf();\nfunction g($a) {}", b"broken at 3"),
+        (b"<?php\nf();\necho 1;", b"broken at 3"),
         (b"<?php\n\nf();\nelse", b"broken at 3"),
         (b"<?php\n\n\nelse", b"broken at 4"),
         (b"<?php a();\nb();\nfinally {}", b"broken at 2"),
         (b"<?php\n\nf();\0", b"broken at 3"),
+        (b"<?php\nf();\n1 . 'a;\n", b"broken at 3"),
         (b"<?php f();\xff", b"not UTF-8"),
         (b"<?php f();\xc0\x80", b"not UTF-8"),
     ];
@@ -101,23 +116,15 @@ mod tests {
             .unwrap_or(b"?")
     }
 
-    fn show_call(shown: &mut Vec<u8>, source: &[u8], call: &Call) -> Result<(), Fail> {
-        shown.extend_from_slice(spelled(source, &call.name))?;
-        shown.push(b';')?;
-        Ok(())
-    }
-
-    fn show_top(shown: &mut Vec<u8>, source: &[u8], top: &Top) -> Result<(), Fail> {
-        match top {
-            Top::Function { name, calls, .. } => {
-                shown.extend_from_slice(spelled(source, name))?;
-                shown.push(b'{')?;
-                for call in calls {
-                    show_call(shown, source, call)?;
-                }
-                shown.push(b'}')?;
-            }
-            Top::Statement(call) => show_call(shown, source, call)?,
+    fn show_names(shown: &mut Vec<u8>, source: &[u8], names: &Names) -> Result<(), Fail> {
+        for name in &names.declared {
+            shown.extend_from_slice(spelled(source, name))?;
+            shown.push(b' ')?;
+        }
+        shown.extend_from_slice(b"calls")?;
+        for name in &names.called {
+            shown.push(b' ')?;
+            shown.extend_from_slice(spelled(source, name))?;
         }
         Ok(())
     }
@@ -125,11 +132,7 @@ mod tests {
     fn shown(alloc: Global, source: &[u8], reading: &Reading) -> Result<Vec<u8>, Fail> {
         let mut shown = Vec::new(alloc);
         match reading {
-            Reading::Readable(tops) => {
-                for top in tops {
-                    show_top(&mut shown, source, top)?;
-                }
-            }
+            Reading::Readable(names) => show_names(&mut shown, source, names)?,
             Reading::TooLarge => shown.extend_from_slice(b"too large")?,
             Reading::NotUtf8 => shown.extend_from_slice(b"not UTF-8")?,
             Reading::Broken(line) => {
@@ -140,7 +143,7 @@ mod tests {
     }
 
     #[test]
-    fn sources_are_read_as_trees(rt: HostRuntime) -> Result<(), Fail> {
+    fn sources_are_read_by_their_names(rt: HostRuntime) -> Result<(), Fail> {
         for (source, wanted) in CASES {
             let reading = read(rt.alloc(), source)?;
             assert_eq!(rt;
@@ -154,11 +157,19 @@ mod tests {
 
     #[test]
     fn a_source_of_the_most_bytes_is_read(rt: HostRuntime) -> Result<(), Fail> {
-        let mut source = OPENING_TAG.to_vec(rt.alloc())?;
-        source.resize(1_048_576, b'\n')?;
-        assert!(rt; matches!(read(rt.alloc(), &source)?, Reading::Readable(_)));
+        let mut source = b"<?php".to_vec(rt.alloc())?;
+        source.resize(LARGEST_SOURCE, b'\n')?;
+        let reading = read(rt.alloc(), &source)?;
+        assert_eq!(rt;
+            shown(rt.alloc(), &source, &reading)?.as_slice(),
+            "calls".as_bytes()
+        );
         source.push(b'\n')?;
-        assert!(rt; matches!(read(rt.alloc(), &source)?, Reading::TooLarge));
+        let reading = read(rt.alloc(), &source)?;
+        assert_eq!(rt;
+            shown(rt.alloc(), &source, &reading)?.as_slice(),
+            "too large".as_bytes()
+        );
         Ok(())
     }
 }

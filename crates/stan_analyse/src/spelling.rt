@@ -1,9 +1,9 @@
 //! The bytes that a token spells.
 
 ghost use Rattle.std.specs.Prelude.{◌≡◌, ◌≤◌, length};
-ghost use Rattle.stan_base.specs.model.Tokens.{spelling};
+ghost use Rattle.stan_base.specs.model.PhpTokens.{spelling};
 
-use stan_base::Token;
+use stan_base::php::Token;
 
 /// The bytes of a source that a token spells.
 pub fn spelling_of<'a>(source: &'a [u8], token: &Token) -> &'a [u8]

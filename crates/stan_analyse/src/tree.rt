@@ -1,31 +1,22 @@
-//! The tree of a file.
+//! What is kept of a file that was read.
 
-use stan_base::Token;
+use stan_base::php::Token;
 
-/// A call of a function, by the token of its name.
-#[derive(Clone, Copy, Debug, PartialEq, Eq)]
-pub struct Call {
-    pub name: Token,
-}
-
+/// The functions of a file, by the tokens of their names.
 #[derive(Drop)]
-pub enum Top {
-    /// The token `function`, the name and the body.
-    Function {
-        first: Token,
-        name: Token,
-        calls: Vec<Call>,
-    },
-    Statement(Call),
+pub struct Names {
+    /// In order of place.
+    pub declared: Vec<Token>,
+    /// Those of a statement stand before those in the bodies of its closures.
+    pub called: Vec<Token>,
 }
 
-/// What a file is read as.
+/// A file that was read, or the reason why it cannot be read.
 #[derive(Drop)]
 pub enum Reading {
-    Readable(Vec<Top>),
-    /// More bytes than a file may have.
+    Readable(Names),
     TooLarge,
     NotUtf8,
-    /// With the line of the fault, from 1.
+    /// With the line of the fault.
     Broken(u32),
 }

@@ -1,5 +1,3 @@
-pub mod GrammarLemmas
-pub mod KeywordLemmas
 pub mod LineLemmas
 pub mod Orders
 pub mod PhpInsideLemmas
@@ -9,6 +7,4 @@ pub mod PhpRunLemmas
 pub mod PhpSizeLemmas
 pub mod PhpTokenLemmas
 pub mod PhpTreeLemmas
-pub mod ReadingLemmas
-pub mod TokenLemmas
 pub mod SortLemmas

@@ -5,7 +5,6 @@ use Rattle.std.specs.List.Sorted.{IsStrictlySortedBy}
 use Rattle.std.specs.Ordering.{nat_cmp}
 use Rattle.std.specs.Cmp.Lexicographic.{slice_cmp}
 use Rattle.std.specs.FinMap as finite
-use Rattle.stan_base.specs.declared.token.Token.{Token}
 use Rattle.stan_base.specs.declared.php.Token as php
 use Rattle.stan_base.specs.declared.php.TokenKind as kind
 use Rattle.stan_base.specs.model.Bytes.{line_of}
@@ -16,15 +15,8 @@ use Rattle.stan_base.specs.model.PhpTrees.{Tree}
 use Rattle.stan_base.specs.model.PhpStrata.{joins, is_end}
 use Rattle.stan_base.specs.model.PhpGrammar.{Spells}
 use Rattle.stan_base.specs.model.PhpTakes.{size, IsTreeOf}
-use Rattle.stan_base.specs.model.Tokens.{AreTokens}
-use Rattle.stan_base.specs.model.Grammar.{Top, SpellsFile}
-use Rattle.stan_base.specs.model.Reading.{Reading, IsReading, AreReadings}
 use Rattle.stan_base.specs.model.Faults.{Fault, in_order}
 use Rattle.stan_base.specs.model.Project.{Contents, normal_path, is_chosen, chosen_files, paths_of}
-
--- From any place on, a source has one list of tokens.
-abbrev pub TokensAreDetermined : Type 0
-TokensAreDetermined = (source : List ℕ) (at : ℕ) (ts us : List Token) → AreTokens source at ts → AreTokens source at us → ts ≡ us
 
 -- A source has one list of tokens.
 abbrev pub OnePhpTokenList : Type 0
@@ -57,18 +49,6 @@ OneTreeOfTokens = (ts : List php.Token) (t u : Tree) (at to : ℕ) → IsTreeOf 
 -- A token that ends an expression goes on with none, whatever stands behind it.
 abbrev pub EndsGoOnWithNothing : Type 0
 EndsGoOnWithNothing = (kind next : kind.TokenKind) → IsTrue (is_end kind) → joins kind next ≡ 30
-
--- Tokens spell one list of tops.
-abbrev pub GrammarIsUnambiguous : Type 0
-GrammarIsUnambiguous = (ts : List Token) (tops others : List Top) → SpellsFile ts tops → SpellsFile ts others → tops ≡ others
-
--- A file has one reading.
-abbrev pub OneReading : Type 0
-OneReading = (source : List ℕ) (r s : Reading) → IsReading source r → IsReading source s → r ≡ s
-
--- Files have one list of readings.
-abbrev pub OneReadings : Type 0
-OneReadings = (sources : List (List ℕ)) (rs ss : List Reading) → AreReadings sources rs → AreReadings sources ss → rs ≡ ss
 
 -- A byte stands on no earlier line than a byte before it.
 abbrev pub LinesDoNotFall : Type 0

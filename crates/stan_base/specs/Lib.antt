@@ -1,4 +1,3 @@
-pub mod Keyword
 pub mod Laws
 pub mod Name
 pub mod model

@@ -1,7 +1,6 @@
 -- What the product means. Each file holds one topic, and `docs/DEFINITIONS.md` lists them.
 pub mod Bytes
 pub mod Names
-pub mod Tokens
 pub mod PhpBytes
 pub mod PhpWords
 pub mod PhpNumbers
@@ -15,6 +14,7 @@ pub mod PhpStrata
 pub mod PhpGrammar
 pub mod PhpDepth
 pub mod PhpTakes
+pub mod Sites
 pub mod Grammar
 pub mod Reading
 pub mod Table

@@ -1,11 +1,6 @@
 //! Laws of the definitions (`specs/model`): each is the contract of a function that does nothing.
 
-ghost use Rattle.stan_base.specs.Laws.{TokensAreDetermined, OnePhpTokenList, PhpTokensStandInOrder, LongestMarkIsRead, RunsEndWhereTheTestFails, TreesSpellTheirSize, TreesStandInTheTokens, OneTreeOfTokens, EndsGoOnWithNothing, GrammarIsUnambiguous, OneReading, OneReadings, LinesDoNotFall, ChosenOnceInOrder, ChosenAreHeld, ChosenInAnyOrder, FaultsInAnyOrder};
-
-/// From any place on, a source has one list of tokens.
-pub fn tokens_are_determined()
-    ensures { TokensAreDetermined }
-{}
+ghost use Rattle.stan_base.specs.Laws.{OnePhpTokenList, PhpTokensStandInOrder, LongestMarkIsRead, RunsEndWhereTheTestFails, TreesSpellTheirSize, TreesStandInTheTokens, OneTreeOfTokens, EndsGoOnWithNothing, LinesDoNotFall, ChosenOnceInOrder, ChosenAreHeld, ChosenInAnyOrder, FaultsInAnyOrder};
 
 /// A source has one list of tokens.
 pub fn one_php_token_list()
@@ -45,21 +40,6 @@ pub fn one_tree_of_tokens()
 /// A token that ends an expression goes on with none, whatever stands behind it.
 pub fn ends_go_on_with_nothing()
     ensures { EndsGoOnWithNothing }
-{}
-
-/// Tokens spell one list of tops.
-pub fn grammar_is_unambiguous()
-    ensures { GrammarIsUnambiguous }
-{}
-
-/// A file has one reading.
-pub fn one_reading()
-    ensures { OneReading }
-{}
-
-/// Files have one list of readings.
-pub fn one_readings()
-    ensures { OneReadings }
 {}
 
 /// A byte stands on no earlier line than a byte before it.

@@ -2,7 +2,6 @@
 #![tactic(auto)]
 
 mod ask_kind;
-mod keyword;
 pub mod laws;
 mod line;
 mod memory;
@@ -11,11 +10,8 @@ pub mod operators;
 pub mod php;
 #[cfg(test)]
 mod tests;
-mod token;
 
 pub use ask_kind::AskKind;
-pub use keyword::{KEYWORDS, word_kind};
 pub use line::line_at;
 pub use memory::OutOfMemory;
-pub use name::Name;
-pub use token::{Token, TokenKind};
+pub use name::{Name, begins_relative, resolved};

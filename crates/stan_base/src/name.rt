@@ -3,6 +3,8 @@
 ghost use Rattle.std.specs.Prelude.{◌≡◌, ◌↔◌, IsTrue, IfOk};
 ghost use Rattle.stan_base.specs.Name.{name_bytes};
 ghost use Rattle.stan_base.specs.model.Bytes.{fold_case};
+ghost use Rattle.stan_base.specs.model.Names.{resolved};
+ghost use Rattle.stan_base.specs.model.PhpWords.{begins_relative};
 
 use crate::OutOfMemory;
 use std::alloc::Global;
@@ -38,5 +40,28 @@ impl Name {
         ensures { IsTrue result ↔ (fold_case (name_bytes self.now) ≡ fold_case (name_bytes other.now)) }
     {
         self.bytes().eq_ignore_ascii_case(other.bytes())
+    }
+}
+
+// What a name begins with that is meant in the present namespace.
+const RELATIVE: &[u8] = b"namespace\\";
+
+/// Whether a name begins with `namespace\`, in any case.
+pub fn begins_relative(name: &[u8]) -> bool
+    ensures { result ≡ begins_relative name.now }
+{
+    name[..name.len().min(10)].eq_ignore_ascii_case(RELATIVE)
+}
+
+/// The full name that a written one means without a namespace and aliases: `\f` and `namespace\f` are `f`.
+pub fn resolved(written: &[u8]) -> &[u8]
+    ensures { result.now ≡ resolved written.now }
+{
+    if written.first() == Some(&b'\\') {
+        &written[1..]
+    } else if begins_relative(written) {
+        &written[written.len().min(10)..]
+    } else {
+        written
     }
 }

@@ -1,7 +1,6 @@
 //! Values taken by hand, which show that the clauses say what is meant.
 
-use crate::keyword::word_kind;
-use crate::{Name, TokenKind, line_at};
+use crate::{Name, line_at, resolved};
 use std::test::Fail;
 
 #[test]
@@ -41,21 +40,17 @@ fn names_fold_the_letters_of_ascii(rt: HostRuntime) -> Result<(), Fail> {
 }
 
 #[test]
-fn reserved_words_are_read_without_case(rt: HostRuntime) {
-    for (word, kind) in [
-        ("FUNCTION", TokenKind::Function),
-        ("ElseIf", TokenKind::ElseIf),
-        ("eLSE", TokenKind::Else),
-        ("catch", TokenKind::Catch),
-        ("Finally", TokenKind::Finally),
-        ("__HALT_COMPILER", TokenKind::Reserved),
-        ("yield", TokenKind::Reserved),
-        ("strict_types", TokenKind::Identifier),
-        ("enum", TokenKind::Identifier),
-        ("foo", TokenKind::Identifier),
-        ("functions", TokenKind::Identifier),
-        ("", TokenKind::Identifier),
+fn names_are_resolved_without_a_namespace(rt: HostRuntime) {
+    for (written, name) in [
+        ("f", "f"),
+        ("\\f", "f"),
+        ("\\A\\f", "A\\f"),
+        ("A\\f", "A\\f"),
+        ("namespace\\f", "f"),
+        ("NameSpace\\A\\f", "A\\f"),
+        ("namespaces\\f", "namespaces\\f"),
+        ("", ""),
     ] {
-        assert_eq!(rt; word_kind(word.as_bytes()), kind, "at {word}");
+        assert_eq!(rt; resolved(written.as_bytes()), name.as_bytes());
     }
 }

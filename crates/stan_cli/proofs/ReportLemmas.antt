@@ -8,7 +8,7 @@ use Rattle.stan_base.specs.model.Reading.{Reading, IsReading, AreReadings}
 use Rattle.stan_base.specs.model.Table.{Exported, exports_of, table_of}
 use Rattle.stan_base.specs.model.Faults.{Fault, faults_of}
 use Rattle.stan_base.specs.model.Project.{most_bytes, excess_from, sources_of}
-use Rattle.stan_base.proofs.ReadingLemmas.{one_readings}
+use Rattle.stan_analyse.proofs.ReadingLemmas.{one_readings}
 use Rattle.stan_cli.specs.Raw.{raw_text}
 use Rattle.stan_cli.specs.Report.{IsReport, IsTable, AreJudged, judged, status_of}
 

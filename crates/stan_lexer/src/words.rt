@@ -1,11 +1,12 @@
 //! Variables, identifiers, keywords and names.
 
 ghost use Rattle.std.specs.Prelude.{◌≡◌, ◌≤◌, ◌<◌, ◌^◌, length, map};
-ghost use Rattle.stan_base.specs.model.PhpWords.{kind_among, begins_relative, name_kind, begins_variable, begins_name, name};
+ghost use Rattle.stan_base.specs.model.PhpWords.{kind_among, name_kind, begins_variable, begins_name, name};
 ghost use Rattle.stan_lexer.specs.Tables.{row_of};
 
 use crate::bytes::{begins_identifier, byte_at};
 use crate::runs::{Run, run_end};
+use stan_base::begins_relative;
 use stan_base::php::{KEYWORDS, TokenKind};
 
 /// The kind that the rows give a word, which is compared without case, or that of an identifier.
@@ -18,13 +19,6 @@ pub fn kind_among(rows: &[(&str, TokenKind)], word: &[u8]) -> TokenKind
         }
     }
     TokenKind::Identifier
-}
-
-// Whether a name begins with `namespace\`.
-fn begins_relative(name: &[u8]) -> bool
-    ensures { result ≡ begins_relative name.now }
-{
-    name[..name.len().min(10)].eq_ignore_ascii_case("namespace\\".as_bytes())
 }
 
 #[tactic(auto, unfolding(stan_base::specs::model::PhpWords::name_kind, stan_base::specs::model::PhpWords::keywords))]

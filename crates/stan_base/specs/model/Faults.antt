@@ -8,8 +8,11 @@ use Rattle.std.specs.declared.cmp.Ordering.{Ordering}
 use Rattle.bstr.specs.Utf8.{lossy_chars}
 use Rattle.stan_base.specs.declared.ask_kind.AskKind.TheVariants as kinds
 use Rattle.stan_base.specs.model.Bytes.{line_of}
-use Rattle.stan_base.specs.model.Tokens.{spelling}
-use Rattle.stan_base.specs.model.Grammar.{Call, Top, Function, Statement}
+use Rattle.stan_base.specs.declared.php.Token.{Token}
+use Rattle.stan_base.specs.model.Names.{resolved}
+use Rattle.stan_base.specs.model.PhpTokens.{spelling}
+use Rattle.stan_base.specs.model.Sites.{sites, calls_among}
+use Rattle.stan_base.specs.model.Grammar.{Statement, Expression, Statements, no_statement, statement, Bodies, no_body, body, Top, Function, Plain, Closing}
 use Rattle.stan_base.specs.model.Reading.{Reading, Readable, TooLarge, NotUtf8, Broken}
 use Rattle.stan_base.specs.model.Table.{Exported, answer_of}
 
@@ -32,17 +35,31 @@ shown name = encode_utf8_all (lossy_chars name)
 
 -- ---- facts
 
--- a call of a function by its name
+-- a call of a function by its name, which is resolved
 pub record CallFact : Type 0 where
   pub line : ℕ
   pub name : List ℕ
 
-abbrev pub calls_of_top : Top → List Call
-calls_of_top (Function first name calls) = calls
-calls_of_top (Statement call) = call ∷ []
+abbrev mutual
+  -- the names that are called in an expression, and then those in the bodies of its closures
+  pub calls_of_statement : Statement → List Token
+  calls_of_statement (Expression e bodies) = calls_among (sites 0 e) ++ calls_of_bodies bodies
 
-abbrev pub fact_of_call : List ℕ → Call → CallFact
-fact_of_call source call = record { line = line_of source call.name.start; name = spelling source call.name }
+  pub calls_of_statements : Statements → List Token
+  calls_of_statements no_statement = []
+  calls_of_statements (statement s ss) = calls_of_statement s ++ calls_of_statements ss
+
+  pub calls_of_bodies : Bodies → List Token
+  calls_of_bodies no_body = []
+  calls_of_bodies (body ss bodies) = calls_of_statements ss ++ calls_of_bodies bodies
+
+abbrev pub calls_of_top : Top → List Token
+calls_of_top (Function first name ss) = calls_of_statements ss
+calls_of_top (Plain s) = calls_of_statement s
+calls_of_top Closing = []
+
+abbrev pub fact_of_call : List ℕ → Token → CallFact
+fact_of_call source name = record { line = line_of source name.start; name = resolved (spelling source name) }
 
 abbrev pub facts_of : List ℕ → List Top → List CallFact
 facts_of source tops = map (fact_of_call source) (flat_map calls_of_top tops)

@@ -1,43 +1,68 @@
--- The grammar of files, as a relation between a tree and the tokens that it spells, one case a production.
---     file = {top}    top = function | call    call = identifier "(" ")" ";"
---     function = "function" identifier "(" ")" "{" {call} "}"
--- Places count the tokens of the list.
-use Rattle.std.specs.Prelude.{◌≡◌, ◌⊎◌, ℕ, ◌+◌, ◌≤◌, Bool, true, false, IsFalse, List, [], ◌∷◌, length, Some, slice_get}
-use Rattle.stan_base.specs.declared.token.Token.{Token}
-use Rattle.stan_base.specs.declared.token.TokenKind.{TokenKind}
-use Rattle.stan_base.specs.declared.token.TokenKind.TheVariants as kinds
-use Rattle.stan_base.specs.model.Tokens.{kind_at}
+-- The grammar of files, as a relation between trees and the tokens that they spell, one case a production.
+--     file = {top}    top = function | statement | "?>"    statement = expr (";" | "?>")
+--     function = "function" identifier "(" ")" "{" {statement} "}"
+-- The body of a closure holds statements too. Places count the tokens of the list, which has no comments and attributes.
+use Rattle.std.specs.Prelude.{◌≡◌, ◌⊎◌, ℕ, ◌+◌, ◌≤◌, Bool, true, false, IsTrue, IsFalse, List, [], ◌∷◌, length}
+use Rattle.stan_base.specs.declared.php.Token.{Token}
+use Rattle.stan_base.specs.declared.php.TokenKind.{TokenKind}
+use Rattle.stan_base.specs.declared.php.TokenKind.TheVariants as kinds
+use Rattle.stan_base.specs.model.PhpStrata.{kind_at}
+use Rattle.stan_base.specs.model.PhpGrammar.{Is, Stands}
+use Rattle.stan_base.specs.model.PhpDepth.{depth}
+use Rattle.stan_base.specs.model.PhpTakes.{IsTreeOf}
+use Rattle.stan_base.specs.model.PhpTrees.{Tree}
+use Rattle.stan_base.specs.model.Sites.{HeldBody, sites, bodies_among}
 
--- a call of a function, by the token of its name
-pub record Call : Type 0 where
-  pub name : Token
+mutual
+  -- an expression, and what the bodies of its closures hold, from left to right
+  pub data Statement : Type 0 where
+    Expression : Tree → Bodies → Statement
+
+  pub data Statements : Type 0 where
+    no_statement : Statements
+    statement : Statement → Statements → Statements
+
+  pub data Bodies : Type 0 where
+    no_body : Bodies
+    body : Statements → Bodies → Bodies
 
 pub data Top : Type 0 where
   -- the token `function`, the name and the body
-  Function : Token → Token → List Call → Top
-  Statement : Call → Top
+  Function : Token → Token → Statements → Top
+  Plain : Statement → Top
+  -- the last `?>`, where it ends no statement
+  Closing : Top
+
+-- what ends a statement
+abbrev pub ends_statement : TokenKind → Bool
+ends_statement kinds.Semicolon = true
+ends_statement kinds.ClosingTag = true
+ends_statement _ = false
 
 module _ (ts : List Token) where
-  abbrev pub Is : ℕ → TokenKind → Type 0
-  Is at kind = kind_at ts at ≡ kind
+  -- Each relation says that a tree spells the tokens from one place to another, where this many levels are open around it.
+  abbrev mutual
+    -- The tree of the tokens is at most 200 deep with the open levels, and so is what the bodies of its closures hold.
+    pub ReadsStatement : ℕ → Statement → ℕ → ℕ → Type 0
+    ReadsStatement levels (Expression e bodies) from to = (b : ℕ) × IsTreeOf ts e from b × (depth e + levels ≤ 200) × IsTrue (ends_statement (kind_at ts b))
+        × (to ≡ b + 1) × ReadsBodies levels bodies (bodies_among (sites 0 e))
 
-  -- this token stands there
-  abbrev pub Stands : ℕ → Token → Type 0
-  Stands at t = slice_get ts at ≡ Some t
+    pub ReadsStatements : ℕ → Statements → ℕ → ℕ → Type 0
+    ReadsStatements levels no_statement from to = from ≡ to
+    ReadsStatements levels (statement s ss) from to = (b : ℕ) × ReadsStatement levels s from b × ReadsStatements levels ss b to
 
-  abbrev pub ReadsCall : Call → ℕ → ℕ → Type 0
-  ReadsCall call from to = Stands from call.name × Is from kinds.Identifier × Is (from + 1) kinds.LeftParenthesis × Is (from + 2) kinds.RightParenthesis
-      × Is (from + 3) kinds.Semicolon × (to ≡ from + 4)
-
-  abbrev pub ReadsCalls : List Call → ℕ → ℕ → Type 0
-  ReadsCalls [] from to = from ≡ to
-  ReadsCalls (call ∷ calls) from to = (b : ℕ) × ReadsCall call from b × ReadsCalls calls b to
+    -- each body between its braces, which are one level more
+    pub ReadsBodies : ℕ → Bodies → List HeldBody → Type 0
+    ReadsBodies levels no_body [] = Unit {0}
+    ReadsBodies levels (body ss bodies) (held ∷ more) = ReadsStatements (levels + held.levels + 1) ss held.first held.last × Is ts held.last kinds.RightBrace × ReadsBodies levels bodies more
+    ReadsBodies levels _ _ = ⊥
 
   abbrev pub ReadsTop : Top → ℕ → ℕ → Type 0
-  ReadsTop (Function first name calls) from to = (b : ℕ) × Stands from first × Is from kinds.Function × Stands (from + 1) name × Is (from + 1) kinds.Identifier
-      × Is (from + 2) kinds.LeftParenthesis × Is (from + 3) kinds.RightParenthesis × Is (from + 4) kinds.LeftBrace
-      × ReadsCalls calls (from + 5) b × Is b kinds.RightBrace × (to ≡ b + 1)
-  ReadsTop (Statement call) from to = ReadsCall call from to
+  ReadsTop (Function first name ss) from to = (b : ℕ) × Stands ts from first × Is ts from kinds.Function × Stands ts (from + 1) name × Is ts (from + 1) kinds.Identifier
+      × Is ts (from + 2) kinds.LeftParenthesis × Is ts (from + 3) kinds.RightParenthesis × Is ts (from + 4) kinds.LeftBrace
+      × ReadsStatements 1 ss (from + 5) b × Is ts b kinds.RightBrace × (to ≡ b + 1)
+  ReadsTop (Plain s) from to = ReadsStatement 0 s from to
+  ReadsTop Closing from to = Is ts from kinds.ClosingTag × (to ≡ from + 1)
 
   abbrev pub ReadsTops : List Top → ℕ → ℕ → Type 0
   ReadsTops [] from to = from ≡ to

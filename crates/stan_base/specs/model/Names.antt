@@ -1,10 +1,11 @@
--- Names as they are compared (PHP manual, "Name resolution rules": classes and functions without case, constants with it).
-use Rattle.std.specs.Prelude.{ℕ, ◌==◌, if◌then◌else◌, List, [], ◌∷◌}
+-- Names as they are resolved and compared (PHP manual, "Name resolution rules": classes and functions without case, constants with it).
+use Rattle.std.specs.Prelude.{ℕ, ◌==◌, if◌then◌else◌, List, [], ◌∷◌, drop, slice_index}
 use Rattle.std.specs.Char.{to_ascii_lowercase}
 use Rattle.std.specs.List.{list_any}
 use Rattle.stan_base.specs.declared.ask_kind.AskKind.{AskKind}
 use Rattle.stan_base.specs.declared.ask_kind.AskKind.TheVariants as kinds
 use Rattle.stan_base.specs.model.Bytes.{fold_case}
+use Rattle.stan_base.specs.model.PhpWords.{begins_relative}
 
 -- the namespace folded: each byte behind which, or at which, a backslash stands
 abbrev pub fold_namespace : List ℕ → List ℕ
@@ -16,3 +17,7 @@ abbrev pub fold_name : AskKind → List ℕ → List ℕ
 fold_name kinds.Class name = fold_case name
 fold_name kinds.Function name = fold_case name
 fold_name kinds.Constant name = fold_namespace name
+
+-- the full name that a written one means without a namespace and aliases: `\f` and `namespace\f` are `f`
+abbrev pub resolved : List ℕ → List ℕ
+resolved written = if slice_index written 0 == 92 then drop 1 written else (if begins_relative written then drop 10 written else written)

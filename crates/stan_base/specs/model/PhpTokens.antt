@@ -1,5 +1,5 @@
 -- The tokens of a source, as a statement about its bytes (PHP manual, "Basic syntax" and the list of parser tokens).
-use Rattle.std.specs.Prelude.{◌≡◌, ℕ, ◌+◌, ◌-◌, ◌<◌, ◌≤◌, ◌==◌, ◌||◌, ◌&&◌, not, if◌then◌else◌, Bool, true, false, MatchBool, List, [], ◌∷◌, ◌++◌, length, take, Option, Some, None, slice_get, slice_index}
+use Rattle.std.specs.Prelude.{◌≡◌, ℕ, ◌+◌, ◌-◌, ◌<◌, ◌≤◌, ◌==◌, ◌||◌, ◌&&◌, not, if◌then◌else◌, Bool, true, false, MatchBool, List, [], ◌∷◌, ◌++◌, length, take, Option, Some, None, slice_get, slice_index, slice_range}
 use Rattle.std.specs.List.{fold, filter}
 use Rattle.stan_base.specs.declared.php.Opening.{Opening}
 use Rattle.stan_base.specs.declared.php.Opening.TheVariants as openings
@@ -297,3 +297,7 @@ code_tokens ts = filter (λ t. is_code t.kind) ts
 -- the comments of a source, PHPDocs too
 abbrev pub comments : List Token → List Token
 comments ts = filter (λ t. is_comment t.kind) ts
+
+-- the bytes that a token spells
+abbrev pub spelling : List ℕ → Token → List ℕ
+spelling source t = slice_range source t.start t.end

@@ -1,10 +1,9 @@
 -- What a file is read as: a list of tops, or the reason why it cannot be read.
-use Rattle.std.specs.Prelude.{◌≡◌, ℕ, ◌-◌, ◌<◌, ◌≤◌, ◌==◌, ◌&&◌, ◌||◌, Bool, IsTrue, IsUtf8, MatchBool, List, [], ◌∷◌, length, codes, slice_get, slice_index, nat_eq}
-use Rattle.std.specs.List.{starts_with}
+use Rattle.std.specs.Prelude.{◌≡◌, ℕ, ◌-◌, ◌<◌, ◌≤◌, IsUtf8, List, [], ◌∷◌, length, slice_get}
 use Rattle.std.specs.Option.{option_map_or}
-use Rattle.stan_base.specs.declared.token.Token.{Token}
-use Rattle.stan_base.specs.model.Bytes.{is_blank, line_of}
-use Rattle.stan_base.specs.model.Tokens.{AreTokens}
+use Rattle.stan_base.specs.declared.php.Token.{Token}
+use Rattle.stan_base.specs.model.Bytes.{line_of}
+use Rattle.stan_base.specs.model.PhpTokens.{AreTokens, code_tokens}
 use Rattle.stan_base.specs.model.Grammar.{Top, SpellsFile, IsLongestFront}
 
 pub data Reading : Type 0 where
@@ -18,10 +17,6 @@ pub data Reading : Type 0 where
 abbrev pub largest_source : ℕ
 largest_source = 1048576
 
--- `<?php`, and then a blank or the end
-abbrev pub has_opening_tag : List ℕ → Bool
-has_opening_tag source = starts_with nat_eq source (codes "<?php") && ((length source == 5) || is_blank (slice_index source 5))
-
 abbrev pub IsText : List ℕ → Type 0
 IsText source = (length source ≤ largest_source) × IsUtf8 source
 
@@ -29,16 +24,20 @@ IsText source = (length source ≤ largest_source) × IsUtf8 source
 abbrev pub line_at_place : List ℕ → List Token → ℕ → ℕ
 line_at_place source ts at = option_map_or (λ t. line_of source t.start) (slice_get ts at) (line_of source (length source - 1))
 
+-- what the grammar reads of a source
+abbrev pub AreCode : List ℕ → List Token → Type 0
+AreCode source ts = (all : List Token) × AreTokens source all × (ts ≡ code_tokens all)
+
 -- No list of tops spells all the tokens. The fault is at the token after the longest front.
 abbrev pub IsSyntaxErrorAt : List ℕ → ℕ → Type 0
-IsSyntaxErrorAt source line = (ts : List Token) × AreTokens source 5 ts × ((tops : List Top) → SpellsFile ts tops → ⊥)
+IsSyntaxErrorAt source line = (ts : List Token) × AreCode source ts × ((tops : List Top) → SpellsFile ts tops → ⊥)
     × (front : List Top) × (to : ℕ) × IsLongestFront ts front to × (line ≡ line_at_place source ts to)
 
 abbrev pub IsReading : List ℕ → Reading → Type 0
-IsReading source (Readable tops) = IsText source × IsTrue (has_opening_tag source) × (ts : List Token) × AreTokens source 5 ts × SpellsFile ts tops
+IsReading source (Readable tops) = IsText source × (ts : List Token) × AreCode source ts × SpellsFile ts tops
 IsReading source TooLarge = largest_source < length source
 IsReading source NotUtf8 = (length source ≤ largest_source) × ¬ (IsUtf8 source)
-IsReading source (Broken line) = IsText source × MatchBool (has_opening_tag source) (IsSyntaxErrorAt source line) (line ≡ 1)
+IsReading source (Broken line) = IsText source × IsSyntaxErrorAt source line
 
 -- each source with its reading
 abbrev pub AreReadings : List (List ℕ) → List Reading → Type 0

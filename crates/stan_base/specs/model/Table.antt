@@ -5,8 +5,8 @@ use Rattle.std.specs.Str.{bytes_eq}
 use Rattle.stan_base.specs.declared.ask_kind.AskKind.{AskKind}
 use Rattle.stan_base.specs.declared.ask_kind.AskKind.TheVariants as kinds
 use Rattle.stan_base.specs.model.Names.{fold_name}
-use Rattle.stan_base.specs.model.Tokens.{spelling}
-use Rattle.stan_base.specs.model.Grammar.{Top, Function, Statement}
+use Rattle.stan_base.specs.model.PhpTokens.{spelling}
+use Rattle.stan_base.specs.model.Grammar.{Top, Function, Plain, Closing}
 use Rattle.stan_base.specs.model.Reading.{Reading, Readable, TooLarge, NotUtf8, Broken}
 
 -- what other files can see of a declaration
@@ -16,8 +16,9 @@ pub data Exported : Type 0 where
 
 -- the nodes of a file, in order of place. A file that cannot be read declares nothing.
 abbrev pub exports_of_top : List ℕ → Top → List Exported
-exports_of_top source (Function first name calls) = FunctionNode (spelling source name) ∷ []
-exports_of_top source (Statement call) = []
+exports_of_top source (Function first name ss) = FunctionNode (spelling source name) ∷ []
+exports_of_top source (Plain s) = []
+exports_of_top source Closing = []
 
 abbrev pub exports_of : List ℕ → Reading → List Exported
 exports_of source (Readable tops) = flat_map (exports_of_top source) tops

@@ -1,5 +1,8 @@
+use Rattle.std.proofs.Common.{◌∙◌}
+use Rattle.stan_analyse.proofs.FrontLemmas.{top_from_statement, not_opened}
 use Rattle.stan_analyse.proofs.parser.top_at.Goals as goal
-use Rattle.stan_analyse.proofs.ParserLemmas.{top_from_function}
 
-pub returns-in-None : goal.returns-in-None
-returns-in-None c = top_from_function c.args.tokens.now c.args.at c.function_at.result c.in-None.ensures c.function_at.ensures
+pub returns : goal.returns
+returns c =
+    top_from_statement c.args.tokens.now c.args.at c.args.names.now c.statement_at.new.calls c.statement_at.result (not_opened c.args.tokens.now c.args.at c.head_at.result c.head_at.ensures c.in_default.not-Some)
+    (λ closing. c.in_default-kind_at.not-ClosingTag (c.kind_at.ensures ∙ closing)) c.statement_at.ensures

@@ -1,19 +1,15 @@
-use Rattle.std.proofs.Common.{◌≤◌, length, vec_len, arith}
+use Rattle.std.proofs.Common.{◌≡◌, ◌∙◌, ap, map, length, vec_len, arith}
 use Rattle.std.proofs.lemmas.Result.{IfOk-weaker}
-use Rattle.stan_analyse.specs.Tree.{reading_of, top_count}
-use Rattle.stan_analyse.proofs.NodeCount.{top_count-within}
-use Rattle.stan_analyse.proofs.ReadNames.{LiesWithin-reading}
+use Rattle.stan_analyse.specs.Names.{function_node}
+use Rattle.stan_analyse.proofs.ReadingSteps.{declared, few_declared}
 use Rattle.stan_analyse.proofs.analyst.PhpAnalyst.exports.Goals as goal
 
-pub exports_of-requires : goal.exports_of-requires
-exports_of-requires c = LiesWithin-reading c.args.source.now (reading_of c.in_ok-reading.reading) c.in_ok-reading.ensures
+pub returns-in-Readable-clause-nodes : goal.returns-in-Readable-clause-nodes
+returns-in-Readable-clause-nodes c =
+    let read = declared c.args.source.now c.in-Readable.names (rw c.in-Readable.is at c.in_ok-names.ensures) in
+    IfOk-weaker c.functions.result _ _ (λ nodes is. (read.0, read.1, is ∙ ap (map (function_node c.args.source.now)) c.as_slice.ensures.value ∙ read.2)) c.functions.ensures.nodes
 
-pub returns-clause-nodes : goal.returns-clause-nodes
-returns-clause-nodes c =
-    let reading = reading_of c.in_ok-reading.reading in
-    IfOk-weaker c.exports_of.result _ _ (λ nodes e. (reading, c.in_ok-reading.ensures, e)) c.exports_of.ensures.nodes
-
-pub returns-clause-few : goal.returns-clause-few
-returns-clause-few c =
-    let fits = top_count-within (length c.args.source.now) c.in_ok-reading.reading (LiesWithin-reading c.args.source.now (reading_of c.in_ok-reading.reading) c.in_ok-reading.ensures) in
-    IfOk-weaker c.exports_of.result _ _ (λ nodes e. let few : vec_len nodes ≤ top_count c.in_ok-reading.reading = e in omega arith) c.exports_of.ensures.few
+pub returns-in-Readable-clause-few : goal.returns-in-Readable-clause-few
+returns-in-Readable-clause-few c =
+    let few = few_declared c.args.source.now c.in-Readable.names (rw c.in-Readable.is at c.in_ok-names.ensures) in
+    IfOk-weaker c.functions.result _ _ (λ nodes is. let count : vec_len nodes ≡ length c.as_slice.result.now = is in let same = ap length c.as_slice.ensures.value in omega arith) c.functions.ensures.count

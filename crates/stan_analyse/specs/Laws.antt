@@ -1,0 +1,17 @@
+-- What holds of the grammar of files and of readings: each is the contract of a function of the module `laws`.
+use Rattle.std.specs.Prelude.{◌≡◌, ℕ, List}
+use Rattle.stan_base.specs.declared.php.Token.{Token}
+use Rattle.stan_base.specs.model.Grammar.{Top, SpellsFile}
+use Rattle.stan_base.specs.model.Reading.{Reading, IsReading, AreReadings}
+
+-- Tokens spell one list of tops.
+abbrev pub GrammarIsUnambiguous : Type 0
+GrammarIsUnambiguous = (ts : List Token) (tops others : List Top) → SpellsFile ts tops → SpellsFile ts others → tops ≡ others
+
+-- A file has one reading.
+abbrev pub OneReading : Type 0
+OneReading = (source : List ℕ) (r s : Reading) → IsReading source r → IsReading source s → r ≡ s
+
+-- Files have one list of readings.
+abbrev pub OneReadings : Type 0
+OneReadings = (sources : List (List ℕ)) (rs ss : List Reading) → AreReadings sources rs → AreReadings sources ss → rs ≡ ss

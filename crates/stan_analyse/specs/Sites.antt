@@ -1,0 +1,32 @@
+-- The sites of the model that values of the program stand for.
+use Rattle.std.specs.Prelude.{Bool, true, false, List, [], ◌∷◌, Option, Some, None}
+use Rattle.stan_base.specs.declared.operators.Leaf.TheVariants as leaves
+use Rattle.stan_base.specs.declared.php.Token.{Token}
+use Rattle.stan_base.specs.model.PhpTrees.{Tree, node, Single, Steps, step, Call}
+use Rattle.stan_base.specs.model.Sites as model
+use Rattle.stan_analyse.specs.declared.sites.HeldBody.{HeldBody}
+use Rattle.stan_analyse.specs.declared.sites.Site.{Site}
+use Rattle.stan_analyse.specs.declared.sites.Site.TheVariants as sites
+
+abbrev pub held_of : HeldBody → model.HeldBody
+held_of body = record { levels = body.levels; first = body.from; last = body.to }
+
+abbrev pub site_of : Site → model.Site
+site_of (sites.Call t) = model.CallSite t
+site_of (sites.Body b) = model.BodySite (held_of b)
+
+-- ---- what functions inside promise each other
+
+-- the call of a name that may be there
+abbrev pub call_of : Option Token → List model.Site
+call_of None = []
+call_of (Some t) = model.CallSite t ∷ []
+
+abbrev pub is_name : Tree → Bool
+is_name (node t (Single leaves.Name)) = true
+is_name _ = false
+
+-- whether brackets with arguments stand first
+abbrev pub begins_with_call : Steps → Bool
+begins_with_call (step (Call es) ss) = true
+begins_with_call _ = false
