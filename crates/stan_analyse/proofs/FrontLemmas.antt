@@ -72,10 +72,10 @@ module _ (ts : List Token) where
   -- ---- one more top
 
   -- tops up to a place, with their names, and where the last one begins
-  abbrev pub HasTops : program.Names → Option ℕ → ℕ → Type 0
-  HasTops names last to = (tops : List Top) × ReadsTops ts tops 0 to × AreNames tops names × EndsAt ts tops last to × (to ≤ length ts)
+  abbrev pub TopsSoFar : program.Names → Option ℕ → ℕ → Type 0
+  TopsSoFar names last to = (tops : List Top) × ReadsTops ts tops 0 to × AreNames tops names × EndsAt ts tops last to × (to ≤ length ts)
 
-  pub has_tops_more : (before after : program.Names) (last : Option ℕ) (at to : ℕ) → HasTops before last at → TopAt ts at before after (Some to) → HasTops after (Some at) to
+  pub has_tops_more : (before after : program.Names) (last : Option ℕ) (at to : ℕ) → TopsSoFar before last at → TopAt ts at before after (Some to) → TopsSoFar after (Some at) to
   has_tops_more before after last at to read found = (
     read.0 ++ found.0 ∷ [],
     tops_push ts read.0 found.0 0 at to read.1 found.1,

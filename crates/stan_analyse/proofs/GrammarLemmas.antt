@@ -25,13 +25,6 @@ statement_end _ h = absurd cc
 end_ends_no_statement : IsTrue (ends_statement kinds.End) → ⊥
 end_ends_no_statement h = cc
 
-going_on_is_no_start : (kind next : TokenKind) → IsTrue (goes_on kind) → starts kind next ≡ false
-going_on_is_no_start kinds.Else next h = refl
-going_on_is_no_start kinds.ElseIf next h = refl
-going_on_is_no_start kinds.Catch next h = refl
-going_on_is_no_start kinds.Finally next h = refl
-going_on_is_no_start _ next h = absurd cc
-
 start_does_not_go_on : (kind next : TokenKind) → starts kind next ≡ true → goes_on kind ≡ false
 start_does_not_go_on kinds.Else next h = absurd cc
 start_does_not_go_on kinds.ElseIf next h = absurd cc
@@ -79,9 +72,6 @@ module _ (ts : List Token) where
 
   pub no_statement_at_tag : (at : ℕ) → Is ts at kinds.ClosingTag → (levels : ℕ) (s : Statement) (to : ℕ) → ReadsStatement ts levels s at to → ⊥
   no_statement_at_tag at is = no_statement_at at kinds.ClosingTag is (λ next. refl)
-
-  pub no_statement_that_goes_on : (at : ℕ) → IsTrue (goes_on (kind_at ts at)) → (levels : ℕ) (s : Statement) (to : ℕ) → ReadsStatement ts levels s at to → ⊥
-  no_statement_that_goes_on at on = no_statement_where at (going_on_is_no_start (kind_at ts at) (kind_at ts (at + 1)) on)
 
   pub no_statement_at_function : (at : ℕ) → Is ts at kinds.Function → Is ts (at + 1) kinds.Identifier → (levels : ℕ) (s : Statement) (to : ℕ) → ReadsStatement ts levels s at to → ⊥
   no_statement_at_function at is name = no_statement_where at (rw is (rw name refl))

@@ -1,5 +1,5 @@
 -- The names that a file calls and declares lie within its source, and the bodies of closures within its tokens.
-use Rattle.std.proofs.Common.{ℕ, ◌+◌, ◌<◌, ◌≤◌, List, [], ◌∷◌, length, subst, sym}
+use Rattle.std.proofs.Common.{ℕ, ◌+◌, List, [], ◌∷◌, subst, sym}
 use Rattle.std.specs.List.{All, flat_map}
 use Rattle.std.proofs.lemmas.List.Elements.{All-nil, All-cons, All-append, All-filter, All-weaker, All-get_or}
 use Rattle.std.proofs.lemmas.Option.{slice_get_within, get_or_from_slice_get}
@@ -13,7 +13,7 @@ use Rattle.stan_base.specs.model.Reading.{AreCode}
 use Rattle.stan_base.specs.model.Faults.{calls_of_statement, calls_of_statements, calls_of_bodies, calls_of_top}
 use Rattle.stan_base.proofs.PhpOrderLemmas.{php_tokens_in_order}
 use Rattle.stan_analyse.specs.Names.{names_of_top, IsWithin}
-use Rattle.stan_analyse.proofs.SiteLemmas.{IsAmong, calls_stand, bodies_stand, spelled_sites_stand}
+use Rattle.stan_analyse.proofs.SiteLemmas.{IsAmong, calls_stand, spelled_sites_stand}
 
 module _ (source : List ℕ) where
   pub code_within : (ts : List Token) → AreCode source ts → All (IsWithin source) ts
@@ -73,7 +73,3 @@ names_within source ts code [] from to h = All-nil (IsWithin source)
 names_within source ts code (top ∷ tops) from to h =
     All-append (IsWithin source) (names_of_top top) (flat_map names_of_top tops) (top_names_within source ts code top from h.0 h.1)
     (names_within source ts code tops h.0 to h.2)
-
-pub body_sites_within : (ts : List Token) (t : Tree) (from to : ℕ) → Spells ts t from to
-    → All (λ (b : HeldBody). (b.first ≤ b.last) × (b.last < length ts)) (bodies_among (sites 0 t))
-body_sites_within ts t from to h = bodies_stand ts (sites 0 t) (spelled_sites_stand ts t 0 from to h)

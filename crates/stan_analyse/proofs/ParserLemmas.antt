@@ -67,9 +67,6 @@ module _ (ts : List Token) where
 
   -- ---- a statement
 
-  pub no_statement_without_plain : (levels at : ℕ) → ((e : Tree) (end : ℕ) → IsPlain ts levels at e end → ⊥) → (s : Statement) (to : ℕ) → ReadsStatement ts levels s at to → ⊥
-  no_statement_without_plain levels at none (Expression e bodies) to r = none e r.0 (r.1, r.2, r.3)
-
   module _ (levels at : ℕ) (e : Tree) (end : ℕ) (plain : IsPlain ts levels at e end) (found : List Site) (are : found ≡ sites 0 e) where
     pub statement_found : (to : ℕ) (before middle after : List Token) (bodies : Bodies) → to ≡ end + 1 → middle ≡ before ++ calls_among found → ReadsBodies ts levels bodies (bodies_among found) → after ≡ middle ++ calls_of_bodies bodies
         → StatementAt ts levels at before after (Some to)
@@ -92,10 +89,10 @@ module _ (ts : List Token) where
   calls-push (statement first ss) s = ap (λ xs. calls_of_statement first ++ xs) (calls-push ss s) ∙ sym (append_assoc (calls_of_statement first) (calls_of_statements ss) (calls_of_statement s))
 
   -- statements from one place to another, whose calls stand behind others
-  abbrev pub HasRead : ℕ → ℕ → ℕ → List Token → List Token → Type 0
-  HasRead levels from at before after = (ss : Statements) × ReadsStatements ts levels ss from at × (after ≡ before ++ calls_of_statements ss)
+  abbrev pub StatementsSoFar : ℕ → ℕ → ℕ → List Token → List Token → Type 0
+  StatementsSoFar levels from at before after = (ss : Statements) × ReadsStatements ts levels ss from at × (after ≡ before ++ calls_of_statements ss)
 
-  pub has_read_more : (levels from at to : ℕ) (before middle after : List Token) → HasRead levels from at before middle → StatementAt ts levels at middle after (Some to) → HasRead levels from to before after
+  pub has_read_more : (levels from at to : ℕ) (before middle after : List Token) → StatementsSoFar levels from at before middle → StatementAt ts levels at middle after (Some to) → StatementsSoFar levels from to before after
   has_read_more levels from at to before middle after read found = (
     push read.0 found.0,
     statements_push ts levels read.0 found.0 from at to read.1 found.1,
@@ -103,7 +100,7 @@ module _ (ts : List Token) where
   )
 
   -- Where no statement goes on and no brace stands there is no block.
-  pub no_block : (levels from at : ℕ) (before after : List Token) → HasRead levels from at before after → ((s : Statement) (to : ℕ) → ReadsStatement ts levels s at to → ⊥) → ¬ (Is ts at kinds.RightBrace)
+  pub no_block : (levels from at : ℕ) (before after : List Token) → StatementsSoFar levels from at before after → ((s : Statement) (to : ℕ) → ReadsStatement ts levels s at to → ⊥) → ¬ (Is ts at kinds.RightBrace)
       → (os : Statements) (to : ℕ) → IsBlock ts levels os from to → ⊥
   no_block levels from at before after read stops no_brace os to block =
       let same = statements_to_stop ts levels read.0 os from at to read.1 block.0 stops (no_statement_at_brace ts to block.1 levels) in
@@ -152,8 +149,8 @@ module _ (ts : List Token) where
 
   -- ---- the bodies among the first sites
 
-  abbrev pub HaveRead : ℕ → List program.Site → List Token → List Token → Type 0
-  HaveRead levels sites before after = (bodies : Bodies) × ReadsBodies ts levels bodies (bodies_among (map site_of sites)) × (after ≡ before ++ calls_of_bodies bodies)
+  abbrev pub BodiesSoFar : ℕ → List program.Site → List Token → List Token → Type 0
+  BodiesSoFar levels sites before after = (bodies : Bodies) × ReadsBodies ts levels bodies (bodies_among (map site_of sites)) × (after ≡ before ++ calls_of_bodies bodies)
 
   -- one more site
   among_more : (all : List program.Site) (i : ℕ) (d : program.Site) → i < length all → bodies_among (map site_of (take (i + 1) all)) ≡ bodies_among (map site_of (take i all)) ++ bodies_among (site_of (get_or all i d) ∷ [])
@@ -162,8 +159,8 @@ module _ (ts : List Token) where
       ∙ ap bodies_among (map-append site_of (take i all) (get_or all i d ∷ []))
       ∙ bodies_among-append (map site_of (take i all)) (site_of (get_or all i d) ∷ [])
 
-  module _ (levels : ℕ) (all : List program.Site) (i : ℕ) (d : program.Site) (lt : i < length all) (before middle : List Token) (read : HaveRead levels (take i all) before middle) where
-    pub have_read_call : (name : Token) → get_or all i d ≡ Call name → HaveRead levels (take (i + 1) all) before middle
+  module _ (levels : ℕ) (all : List program.Site) (i : ℕ) (d : program.Site) (lt : i < length all) (before middle : List Token) (read : BodiesSoFar levels (take i all) before middle) where
+    pub have_read_call : (name : Token) → get_or all i d ≡ Call name → BodiesSoFar levels (take (i + 1) all) before middle
     have_read_call name call = (
       read.0,
       subst (ReadsBodies ts levels read.0) (sym (among_more all i d lt ∙ ap (λ x. bodies_among (map site_of (take i all)) ++ bodies_among (site_of x ∷ [])) call ∙ append-nil (bodies_among (map site_of (take i all))))) read.1,
@@ -171,7 +168,7 @@ module _ (ts : List Token) where
     )
 
     module _ (held : HeldBody) (inside : bodies_among (site_of (get_or all i d) ∷ []) ≡ held ∷ []) where
-      pub have_read_body : (ss : Statements) (after : List Token) → IsBlock ts (levels + held.levels + 1) ss held.first held.last → after ≡ middle ++ calls_of_statements ss → HaveRead levels (take (i + 1) all) before after
+      pub have_read_body : (ss : Statements) (after : List Token) → IsBlock ts (levels + held.levels + 1) ss held.first held.last → after ≡ middle ++ calls_of_statements ss → BodiesSoFar levels (take (i + 1) all) before after
       have_read_body ss after block more = (
         push_body read.0 ss,
         subst (ReadsBodies ts levels (push_body read.0 ss)) (sym (among_more all i d lt ∙ ap (λ xs. bodies_among (map site_of (take i all)) ++ xs) inside)) (bodies_push levels read.0 (bodies_among (map site_of (take i all))) ss held read.1 block),

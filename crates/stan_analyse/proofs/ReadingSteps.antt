@@ -6,15 +6,12 @@ use Rattle.stan_base.specs.declared.php.Token.{Token}
 use Rattle.stan_base.specs.model.Bytes.{line_of}
 use Rattle.stan_base.specs.model.Grammar.{Top, SpellsFile}
 use Rattle.stan_base.specs.model.Reading as model
-use Rattle.stan_base.specs.model.Table.{Exported}
-use Rattle.stan_base.specs.model.Faults.{in_order}
 use Rattle.stan_analyse.specs.declared.parser.Front.TheVariants.{Whole, Part}
 use Rattle.stan_analyse.specs.declared.tree.Names as program
 use Rattle.stan_analyse.specs.declared.tree.Reading.TheVariants.{Readable, Broken}
 use Rattle.stan_analyse.specs.Names.{IsWithin, names_of_top, function_node}
 use Rattle.stan_analyse.specs.Parser.{IsFrontOf, StopsAt}
-use Rattle.stan_analyse.specs.Tree.{Shows, IsReadAs, AreExports, AreFaults}
-use Rattle.stan_analyse.specs.Faults.{call_faults}
+use Rattle.stan_analyse.specs.Tree.{Shows, IsReadAs, AreExports}
 use Rattle.stan_analyse.proofs.GrammarLemmas.{statements_after, top_after, whole_front}
 use Rattle.stan_analyse.proofs.ExportLemmas.{exports_of_names, functions_fit}
 use Rattle.stan_analyse.proofs.NamesWithin.{calls_within, names_within, code_within}
@@ -77,23 +74,3 @@ module _ (source : List ℕ) (names : program.Names) where
 
   pub few_declared : IsReadAs source (Readable names) → length names.declared.items ≤ length source
   few_declared read = few_by read.0 read.1 read.2
-
-  -- ---- and its faults
-
-  small_by : (reading : model.Reading) → model.IsReading source reading → Shows (Readable names) reading → length source ≤ model.largest_source
-  small_by (model.Readable tops) is shown = is.0.0
-  small_by model.TooLarge is shown = absurd shown
-  small_by model.NotUtf8 is shown = absurd shown
-  small_by (model.Broken line) is shown = absurd shown
-
-  pub small : IsReadAs source (Readable names) → length source ≤ model.largest_source
-  small read = small_by read.0 read.1 read.2
-
-  faults_by : (table : List Exported) (reading : model.Reading) → model.IsReading source reading → Shows (Readable names) reading → AreFaults table source (in_order (call_faults table source names.called.items))
-  faults_by table (model.Readable tops) is shown = (model.Readable tops, is, ap (λ calls. in_order (call_faults table source calls)) shown.called)
-  faults_by table model.TooLarge is shown = absurd shown
-  faults_by table model.NotUtf8 is shown = absurd shown
-  faults_by table (model.Broken line) is shown = absurd shown
-
-  pub faults_found : (table : List Exported) → IsReadAs source (Readable names) → AreFaults table source (in_order (call_faults table source names.called.items))
-  faults_found table read = faults_by table read.0 read.1 read.2

@@ -1,5 +1,5 @@
 -- The sites of an expression stand in the tokens that it spells.
-use Rattle.std.proofs.Common.{◌≡◌, ℕ, ◌+◌, ◌-◌, ◌<◌, ◌≤◌, Bool, true, false, List, [], ◌∷◌, ◌++◌, length, Some, sym, ◌∙◌}
+use Rattle.std.proofs.Common.{◌≡◌, ℕ, ◌+◌, ◌-◌, Bool, true, false, List, [], ◌∷◌, ◌++◌, Some}
 use Rattle.std.specs.Prelude.{slice_get}
 use Rattle.std.specs.List.{All}
 use Rattle.std.proofs.lemmas.List.Elements.{All-nil, All-cons}
@@ -10,21 +10,17 @@ use Rattle.stan_base.specs.model.PhpStrata.{loosest, prefix_stratum, binary_stra
 use Rattle.stan_base.specs.model.PhpDepth.{is_operation}
 use Rattle.stan_base.specs.model.PhpTrees.{Tree, node, Form, Single, Brackets, Array, IsSet, Empty, Exit, New, Match, Closure, Arrow, Text, Post, Prefix, Assignment, Chain, Binary, Conditional, Items, no_item, items, Item, Positional, Spread, Named, Element, KeyedElement, Parameter, Captured, Arm, DefaultArm, Default, no_default, default, Arguments, no_arguments, arguments, ClassReference, NamedClass, VariableClass, ScopedClass, ComputedClass, MemberName, NamedMember, ComputedMember, Steps, no_step, step, Step, Push, Index, Property, Scoped, Call, Increment, Decrement, Operation, Part, Inserted, Further, Body, Held, Read}
 use Rattle.stan_base.specs.model.PhpGrammar.{ItemSort, argument, element, expression, parameter, captured, arm, StepSort, suffix, class_suffix, part, operation, further, takes_arguments, Reads, Forms, Lists, ItemReads, Defaults, MayBeCalled, Classes, Members, Repeats, StepReads, Bodies, Spells}
-use Rattle.stan_base.specs.model.Sites.{HeldBody, Site, CallSite, BodySite, deeper, left_level, called, sites, form_sites, items_sites, item_sites, default_sites, arguments_sites, class_sites, member_sites, steps_sites, step_sites, body_sites, calls_among, bodies_among}
-use Rattle.stan_base.proofs.PhpInsideLemmas.{kind_inside}
+use Rattle.stan_base.specs.model.Sites.{Site, CallSite, BodySite, deeper, left_level, called, sites, form_sites, items_sites, item_sites, default_sites, arguments_sites, class_sites, member_sites, steps_sites, step_sites, body_sites, calls_among}
 
 module _ (ts : List Token) where
   -- The token is one of the list.
   abbrev pub IsAmong : Token → Type 0
   IsAmong t = (j : ℕ) × (slice_get ts j ≡ Some t)
 
-  -- The body's end is one of the list's places.
-  abbrev pub Ends : HeldBody → Type 0
-  Ends b = (b.first ≤ b.last) × (b.last < length ts)
-
+  -- of a call its name, of a body nothing
   abbrev pub SiteStands : Site → Type 0
   SiteStands (CallSite t) = IsAmong t
-  SiteStands (BodySite b) = Ends b
+  SiteStands (BodySite b) = Unit {0}
 
   abbrev pub AllStand : List Site → Type 0
   AllStand [] = Unit {0}
@@ -39,18 +35,13 @@ module _ (ts : List Token) where
   calls_stand (CallSite t ∷ xs) h = All-cons IsAmong t (calls_among xs) h.0 (calls_stand xs h.1)
   calls_stand (BodySite b ∷ xs) h = calls_stand xs h.1
 
-  pub bodies_stand : (xs : List Site) → AllStand xs → All Ends (bodies_among xs)
-  bodies_stand [] h = All-nil Ends
-  bodies_stand (CallSite t ∷ xs) h = bodies_stand xs h.1
-  bodies_stand (BodySite b ∷ xs) h = All-cons Ends b (bodies_among xs) h.0 (bodies_stand xs h.1)
-
   module _ (Stops : ℕ → ℕ → ℕ → Type 0) where
     called_stands : (e : Tree) (ss : Steps) (at to : ℕ) → Reads ts Stops false 0 e at to → AllStand (called e ss)
     called_stands (node t (Single leaves.Name)) (step (Call es) ss) at to h = ((at, h.0), tt)
     called_stands e ss at to h = tt
 
     body_stands : (body : Body) (n at to : ℕ) → Bodies ts Stops body at to → AllStand (body_sites n body)
-    body_stands (Held first last) n at to h = ((h.2.rises, kind_inside ts last (λ none. let e = sym h.3 ∙ none in cc)), tt)
+    body_stands (Held first last) n at to h = (tt, tt)
     body_stands (Read statements) n at to h = absurd h
 
     mutual

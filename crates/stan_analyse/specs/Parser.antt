@@ -80,7 +80,6 @@ module _ (ts : List Token) where
   TopAt at before after None = NoTopAt at
   TopAt at before after (Some to) = (top : Top) × ReadsTop ts top at to × (after.declared.items ≡ before.declared.items ++ names_of_top top) × (after.called.items ≡ before.called.items ++ calls_of_top top)
 
-  -- the names that tops declare and call
   -- The last of the tops is read between two places.
   abbrev pub EndsWithTop : List Top → ℕ → ℕ → Type 0
   EndsWithTop tops last to = (before : List Top) × (top : Top) × (tops ≡ before ++ top ∷ []) × ReadsTops ts before 0 last × ReadsTop ts top last to

@@ -3,7 +3,7 @@ use Rattle.stan_base.specs.model.Grammar.{Bodies, ReadsBodies}
 use Rattle.stan_base.specs.model.Faults.{calls_of_bodies}
 use Rattle.stan_base.specs.model.Sites.{bodies_among}
 use Rattle.stan_analyse.specs.Sites.{site_of}
-use Rattle.stan_analyse.proofs.ParserLemmas.{HasRead}
+use Rattle.stan_analyse.proofs.ParserLemmas.{StatementsSoFar}
 use Rattle.stan_analyse.proofs.parser.+statements.Given as goal
 
 -- More levels are open in a body, and no more than 200 around it.
@@ -21,7 +21,7 @@ abbrev pub decreases-read_body : goal.decreases-read_body
 decreases-read_body l = 4 * (201 - l.levels)
 
 abbrev pub invariant-block_at-loop-at : goal.invariant-block_at-loop-at
-invariant-block_at-loop-at l = HasRead l.tokens l.levels l.fn.from l.at l.fn.calls.items l.calls.items
+invariant-block_at-loop-at l = StatementsSoFar l.tokens l.levels l.fn.from l.at l.fn.calls.items l.calls.items
 
 abbrev pub decreases-block_at-loop-at : goal.decreases-block_at-loop-at
 decreases-block_at-loop-at l = length l.tokens - l.at
