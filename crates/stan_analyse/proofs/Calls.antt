@@ -1,10 +1,10 @@
 -- A name that brackets with arguments follow, by what a function finds of each.
 use Rattle.std.proofs.Common.{◌≡◌, true, refl}
 use Rattle.std.specs.Prelude.{[], ◌∷◌}
-use Rattle.stan_base.specs.declared.operators.Leaf.TheVariants as leaves
-use Rattle.stan_base.specs.declared.php.Token.{Token}
-use Rattle.stan_base.specs.model.PhpTrees.{node, Form, Single, Brackets, Array, IsSet, Empty, Exit, New, Match, Closure, Arrow, Text, Post, Prefix, Assignment, Chain, Binary, Conditional, Steps, no_step, step, Push, Index, Property, Scoped, Call, Increment, Decrement, Operation, Part, Inserted, Further}
-use Rattle.stan_base.specs.model.Sites.{CallSite, called}
+use Rattle.stan_model_grammar.specs.declared.operators.Leaf.TheVariants as leaves
+use Rattle.stan_model_grammar.specs.declared.token.Token.{Token}
+use Rattle.stan_model_grammar.specs.Trees.{node, Form, Single, Brackets, Array, IsSet, Empty, Exit, New, Match, Closure, Arrow, Text, Post, Prefix, Assignment, Chain, Binary, Conditional, Steps, no_step, step, Push, Index, Property, Scoped, Call, Increment, Decrement, Operation, Part, Inserted, Further}
+use Rattle.stan_model_grammar.specs.Sites.{CallSite, called}
 use Rattle.stan_analyse.specs.Sites.{is_name, begins_with_call}
 
 module _ where
@@ -16,7 +16,7 @@ module _ where
   of_name t (step (Scoped u es) ss) is = cc
   of_name t (step Increment ss) is = cc
   of_name t (step Decrement ss) is = cc
-  of_name t (step (Operation o e) ss) is = cc
+  of_name t (step (Operation sign o e) ss) is = cc
   of_name t (step (Part u) ss) is = cc
   of_name t (step (Inserted e) ss) is = cc
   of_name t (step (Further x) ss) is = cc
@@ -42,6 +42,6 @@ name_called t (Post e suffixes) ss name call = cc
 name_called t (Prefix o e) ss name call = cc
 name_called t (Assignment target o e) ss name call = cc
 name_called t (Chain j e operations) ss name call = cc
-name_called t (Binary d o e) ss name call = cc
+name_called t (Binary d sign o e) ss name call = cc
 name_called t (Conditional c d e) ss name call = cc
 name_called t (Single leaves.Name) ss name call = cc (of_name t ss call)

@@ -1,9 +1,9 @@
 -- The functions that a file declares, by the tokens of their names.
 use Rattle.std.proofs.Common.{◌≡◌, ℕ, ◌+◌, ◌*◌, ◌<◌, ◌≤◌, List, [], ◌∷◌, map, length, refl, ap, arith}
 use Rattle.std.specs.List.{flat_map}
-use Rattle.stan_base.specs.declared.php.Token.{Token}
-use Rattle.stan_base.specs.model.Grammar.{Statements, Top, Function, Plain, Closing, ReadsStatements, ReadsTop, ReadsTops}
-use Rattle.stan_base.specs.model.Table.{exports_of_top}
+use Rattle.stan_model_grammar.specs.declared.token.Token.{Token}
+use Rattle.stan_model_grammar.specs.Files.{Statements, Top, Function, Plain, Closing, ReadsStatements, ReadsTop, ReadsTops}
+use Rattle.stan_model_relations.specs.Exports.{exports_of_top}
 use Rattle.stan_analyse.specs.Names.{names_of_top, function_node}
 
 pub exports_of_names : (source : List ℕ) (tops : List Top) → map (function_node source) (flat_map names_of_top tops) ≡ flat_map (exports_of_top source) tops

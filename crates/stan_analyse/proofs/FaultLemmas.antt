@@ -10,17 +10,18 @@ use Rattle.std.specs.Cmp.Lexicographic.{texts_ties}
 use Rattle.std.specs.List.Retain.{IsFiltered, DiffersFromLast}
 use Rattle.std.specs.List.Sorted.{IsSorted, IsPermutation}
 use Rattle.std.proofs.lemmas.List.Filters.{dedup_is}
-use Rattle.stan_base.specs.declared.php.Token.{Token}
-use Rattle.stan_base.specs.model.Faults.{CallFact, fault_cmp, fact_of_call, function_not_found, in_order}
-use Rattle.stan_base.specs.model.Table as model
-use Rattle.stan_base.specs.model.Table.{answer_of}
+use Rattle.stan_model_grammar.specs.declared.token.Token.{Token}
+use Rattle.stan_model_facts.specs.Facts.{CallFact, fact_of_call}
+use Rattle.stan_model_verdict.specs.Faults.{fault_cmp, function_not_found, in_order}
+use Rattle.stan_model_types.specs.Table as model
+use Rattle.stan_model_types.specs.Table.{answer_of}
 use Rattle.stan_base.specs.declared.ask_kind.AskKind.TheVariants as kinds
 use Rattle.stan_analyse.specs.Faults.{fact_fault, call_faults}
-use Rattle.stan_base.proofs.Orders.{fault_cmp_total, fault_cmp-IsAntisymmetric, in_order_is}
+use Rattle.stan_analyst.proofs.FaultOrder.{fault_cmp_total, fault_cmp-IsAntisymmetric, in_order_is}
 use Rattle.stan_base.proofs.SortLemmas.{IsStrictlySortedBy-sorted_once, Contains-sorted_once, Contains-from_sorted_once}
-use Rattle.stan_table.specs.declared.verdict.Fault.{Fault}
-use Rattle.stan_table.specs.contracts.verdict.FaultPartialEq.TheImpl as equality
-use Rattle.stan_table.specs.Table.{fault_of}
+use Rattle.stan_analyst.specs.declared.verdict.Fault.{Fault}
+use Rattle.stan_analyst.specs.contracts.verdict.FaultPartialEq.TheImpl as equality
+use Rattle.stan_analyst.specs.Verdict.{fault_of}
 
 none_left : {X : Type 0} (o : Option X) → ((x : X) → o ≡ Some x → ⊥) → o ≡ None
 none_left None h = refl

@@ -4,16 +4,16 @@ use Rattle.std.specs.List.{flat_map}
 use Rattle.std.proofs.lemmas.Grind.{flat_map-append}
 use Rattle.std.specs.Prelude.{slice_get}
 use Rattle.std.proofs.lemmas.Option.{slice_get-get_or, slice_get_within}
-use Rattle.stan_base.specs.declared.php.Token.{Token}
-use Rattle.stan_base.specs.declared.php.TokenKind.{TokenKind}
-use Rattle.stan_base.specs.declared.php.TokenKind.TheVariants as kinds
-use Rattle.stan_base.specs.model.PhpStrata.{kind_of, kind_at}
-use Rattle.stan_base.specs.model.PhpGrammar.{Is, Stands}
-use Rattle.stan_base.specs.model.Grammar.{Statements, Top, Function, Plain, Closing, goes_on, ReadsTops}
-use Rattle.stan_base.specs.model.Faults.{calls_of_top}
-use Rattle.stan_base.proofs.PhpInsideLemmas.{kind_inside}
-use Rattle.stan_expr.specs.Places.{after}
-use Rattle.stan_expr.proofs.Reading.{after_is, after_none}
+use Rattle.stan_model_grammar.specs.declared.token.Token.{Token}
+use Rattle.stan_model_grammar.specs.declared.token.TokenKind.{TokenKind}
+use Rattle.stan_model_grammar.specs.declared.token.TokenKind.TheVariants as kinds
+use Rattle.stan_model_grammar.specs.Strata.{kind_of, kind_at}
+use Rattle.stan_model_grammar.specs.Expressions.{Is, Stands}
+use Rattle.stan_model_grammar.specs.Files.{Statements, Top, Function, Plain, Closing, goes_on, ReadsTops}
+use Rattle.stan_model_facts.specs.Facts.{calls_of_top}
+use Rattle.stan_expr_law.proofs.InsideLemmas.{kind_inside}
+use Rattle.stan_expr_rules.specs.Places.{after}
+use Rattle.stan_expr_greedy.proofs.Reading.{after_is, after_none}
 use Rattle.stan_analyse.specs.declared.parser.Front.TheVariants.{Part}
 use Rattle.stan_analyse.specs.declared.tree.Names as program
 use Rattle.stan_analyse.specs.Names.{names_of_top}

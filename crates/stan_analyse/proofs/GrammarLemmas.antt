@@ -1,17 +1,17 @@
 -- The grammar reads a list of tokens in one way.
 use Rattle.std.proofs.Common.{◌≡◌, ℕ, ◌+◌, ◌<◌, ◌≤◌, true, false, List, [], ◌∷◌, ◌++◌, length, IsTrue, refl, sym, ap, ap₂, subst, ◌∙◌, inr, arith, length-append, ⊎_elim}
 use Rattle.std.proofs.lemmas.Bool.{cases_lt}
-use Rattle.stan_base.specs.declared.php.Token.{Token}
-use Rattle.stan_base.specs.declared.php.TokenKind.{TokenKind}
-use Rattle.stan_base.specs.declared.php.TokenKind.TheVariants as kinds
-use Rattle.stan_base.specs.model.PhpStrata.{kind_at, is_end, loosest}
-use Rattle.stan_base.specs.model.PhpGrammar.{Is, Stands}
-use Rattle.stan_base.specs.model.PhpTakes.{IsTreeOf}
-use Rattle.stan_base.specs.model.Sites.{HeldBody, sites, bodies_among}
-use Rattle.stan_base.specs.model.Grammar.{Statement, Expression, Statements, no_statement, statement, Bodies, no_body, body, Top, Function, Plain, Closing, ends_statement, ReadsStatement, ReadsStatements, ReadsBodies, ReadsTop, ReadsTops, SpellsFile, IsFront, IsLongestFront, goes_on}
+use Rattle.stan_model_grammar.specs.declared.token.Token.{Token}
+use Rattle.stan_model_grammar.specs.declared.token.TokenKind.{TokenKind}
+use Rattle.stan_model_grammar.specs.declared.token.TokenKind.TheVariants as kinds
+use Rattle.stan_model_grammar.specs.Strata.{kind_at, is_end, loosest}
+use Rattle.stan_model_grammar.specs.Expressions.{Is, Stands}
+use Rattle.stan_model_grammar.specs.Takes.{IsTreeOf}
+use Rattle.stan_model_grammar.specs.Sites.{HeldBody, sites, bodies_among}
+use Rattle.stan_model_grammar.specs.Files.{Statement, Expression, Statements, no_statement, statement, Bodies, no_body, body, Top, Function, Plain, Closing, ends_statement, ReadsStatement, ReadsStatements, ReadsBodies, ReadsTop, ReadsTops, SpellsFile, IsFront, IsLongestFront, goes_on}
 use Rattle.stan_expr.proofs.Answer.{one_end}
-use Rattle.stan_base.proofs.PhpTreeLemmas.{one_tree}
-use Rattle.stan_base.proofs.PhpInsideLemmas.{tree_inside, kind_inside, is_inside}
+use Rattle.stan_expr_law.proofs.TreeLemmas.{one_tree}
+use Rattle.stan_expr_law.proofs.InsideLemmas.{tree_inside, kind_inside, is_inside}
 use Rattle.stan_analyse.specs.Statements.{push}
 use Rattle.stan_analyse.proofs.Starts.{starts, tree_starts}
 

@@ -4,10 +4,10 @@ use Rattle.std.specs.List.{flat_map}
 use Rattle.std.specs.Prelude.{map}
 use Rattle.std.proofs.lemmas.Grind.{flat_map-append}
 use Rattle.std.proofs.lemmas.List.{take_more}
-use Rattle.stan_base.specs.declared.operators.BinaryOperator.{BinaryOperator}
-use Rattle.stan_base.specs.model.PhpTrees as model
-use Rattle.stan_base.specs.model.Sites.{deeper, sites, items_sites, item_sites, steps_sites, step_sites, statements_sites, statement_sites}
-use Rattle.stan_syntax.specs.Tree.{listed, furthers, steps, operation_steps, statements}
+use Rattle.stan_model_grammar.specs.declared.operators.BinaryOperator.{BinaryOperator}
+use Rattle.stan_model_grammar.specs.Trees as model
+use Rattle.stan_model_grammar.specs.Sites.{deeper, sites, items_sites, item_sites, steps_sites, step_sites, statements_sites, statement_sites}
+use Rattle.stan_model_grammar.specs.TreeLists.{listed, furthers, steps, operation_steps, statements}
 
 -- nothing is found
 pub none : {A : Type 0} (found : List A) → found ≡ found ++ []

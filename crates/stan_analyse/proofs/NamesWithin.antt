@@ -3,15 +3,15 @@ use Rattle.std.proofs.Common.{ℕ, ◌+◌, List, [], ◌∷◌, subst, sym}
 use Rattle.std.specs.List.{All, flat_map}
 use Rattle.std.proofs.lemmas.List.Elements.{All-nil, All-cons, All-append, All-filter, All-weaker, All-get_or}
 use Rattle.std.proofs.lemmas.Option.{slice_get_within, get_or_from_slice_get}
-use Rattle.stan_base.specs.declared.php.Token.{Token}
-use Rattle.stan_base.specs.model.PhpTokens.{is_code}
-use Rattle.stan_base.specs.model.PhpTrees.{Tree}
-use Rattle.stan_base.specs.model.PhpGrammar.{Spells}
-use Rattle.stan_base.specs.model.Sites.{HeldBody, sites, calls_among, bodies_among}
-use Rattle.stan_base.specs.model.Grammar.{Statement, Expression, Statements, no_statement, statement, Bodies, no_body, body, Top, Function, Plain, Closing, ReadsStatement, ReadsStatements, ReadsBodies, ReadsTop, ReadsTops}
-use Rattle.stan_base.specs.model.Reading.{AreCode}
-use Rattle.stan_base.specs.model.Faults.{calls_of_statement, calls_of_statements, calls_of_bodies, calls_of_top}
-use Rattle.stan_base.proofs.PhpOrderLemmas.{php_tokens_in_order}
+use Rattle.stan_model_grammar.specs.declared.token.Token.{Token}
+use Rattle.stan_model_grammar.specs.Tokens.{is_code}
+use Rattle.stan_model_grammar.specs.Trees.{Tree}
+use Rattle.stan_model_grammar.specs.Expressions.{Spells}
+use Rattle.stan_model_grammar.specs.Sites.{HeldBody, sites, calls_among, bodies_among}
+use Rattle.stan_model_grammar.specs.Files.{Statement, Expression, Statements, no_statement, statement, Bodies, no_body, body, Top, Function, Plain, Closing, ReadsStatement, ReadsStatements, ReadsBodies, ReadsTop, ReadsTops}
+use Rattle.stan_model_grammar.specs.Reading.{AreCode}
+use Rattle.stan_model_facts.specs.Facts.{calls_of_statement, calls_of_statements, calls_of_bodies, calls_of_top}
+use Rattle.stan_lexer.proofs.OrderLemmas.{php_tokens_in_order}
 use Rattle.stan_analyse.specs.Names.{names_of_top, IsWithin}
 use Rattle.stan_analyse.proofs.SiteLemmas.{IsAmong, calls_stand, spelled_sites_stand}
 

@@ -3,18 +3,18 @@ use Rattle.std.proofs.Common.{◌≡◌, ℕ, ◌+◌, ◌<◌, ◌≤◌, true,
 use Rattle.std.proofs.lemmas.List.{take_more, take-append-drop, map-append}
 use Rattle.std.proofs.lemmas.Bool.Decides.{eqb_tells}
 use Rattle.std.specs.Prelude.{nat_eq}
-use Rattle.stan_base.specs.declared.php.Token.{Token}
-use Rattle.stan_base.specs.declared.php.TokenKind.TheVariants as kinds
-use Rattle.stan_base.specs.model.PhpTrees.{Tree}
-use Rattle.stan_base.specs.model.PhpStrata.{kind_at}
-use Rattle.stan_base.specs.model.PhpGrammar.{Is, Spells, IsEnd}
-use Rattle.stan_base.specs.model.PhpDepth.{depth}
-use Rattle.stan_base.specs.model.PhpTakes.{IsTreeOf}
-use Rattle.stan_base.specs.model.Sites.{HeldBody, Site, CallSite, BodySite, sites, calls_among, bodies_among}
-use Rattle.stan_base.specs.model.Grammar.{Statement, Expression, Statements, no_statement, statement, Bodies, no_body, body, ends_statement, ReadsStatement, ReadsStatements, ReadsBodies}
-use Rattle.stan_base.specs.model.Faults.{calls_of_statement, calls_of_statements, calls_of_bodies}
-use Rattle.stan_base.proofs.PhpInsideLemmas.{tree_inside, kind_inside}
-use Rattle.stan_base.proofs.PhpTreeLemmas.{one_tree}
+use Rattle.stan_model_grammar.specs.declared.token.Token.{Token}
+use Rattle.stan_model_grammar.specs.declared.token.TokenKind.TheVariants as kinds
+use Rattle.stan_model_grammar.specs.Trees.{Tree}
+use Rattle.stan_model_grammar.specs.Strata.{kind_at}
+use Rattle.stan_model_grammar.specs.Expressions.{Is, Spells, IsEnd}
+use Rattle.stan_model_grammar.specs.Depth.{depth}
+use Rattle.stan_model_grammar.specs.Takes.{IsTreeOf}
+use Rattle.stan_model_grammar.specs.Sites.{HeldBody, Site, CallSite, BodySite, sites, calls_among, bodies_among}
+use Rattle.stan_model_grammar.specs.Files.{Statement, Expression, Statements, no_statement, statement, Bodies, no_body, body, ends_statement, ReadsStatement, ReadsStatements, ReadsBodies}
+use Rattle.stan_model_facts.specs.Facts.{calls_of_statement, calls_of_statements, calls_of_bodies}
+use Rattle.stan_expr_law.proofs.InsideLemmas.{tree_inside, kind_inside}
+use Rattle.stan_expr_law.proofs.TreeLemmas.{one_tree}
 use Rattle.stan_expr.proofs.Answer.{one_end}
 use Rattle.stan_analyse.specs.declared.sites.HeldBody as held_body
 use Rattle.stan_analyse.specs.declared.sites.Site as program

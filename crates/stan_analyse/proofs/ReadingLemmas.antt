@@ -1,10 +1,10 @@
 -- A source has one reading.
 use Rattle.std.proofs.Common.{◌≡◌, ℕ, ◌<◌, List, [], ◌∷◌, length, refl, sym, ap, ap₂, subst, ◌∙◌, arith}
-use Rattle.stan_base.specs.declared.php.Token.{Token}
-use Rattle.stan_base.specs.model.PhpTokens.{code_tokens}
-use Rattle.stan_base.specs.model.Grammar.{Top, SpellsFile, IsLongestFront}
-use Rattle.stan_base.specs.model.Reading.{Reading, Readable, TooLarge, NotUtf8, Broken, largest_source, IsText, line_at_place, AreCode, IsSyntaxErrorAt, IsReading, AreReadings}
-use Rattle.stan_base.proofs.PhpTokenLemmas.{one_php_token_list}
+use Rattle.stan_model_grammar.specs.declared.token.Token.{Token}
+use Rattle.stan_model_grammar.specs.Tokens.{code_tokens}
+use Rattle.stan_model_grammar.specs.Files.{Top, SpellsFile, IsLongestFront}
+use Rattle.stan_model_grammar.specs.Reading.{Reading, Readable, TooLarge, NotUtf8, Broken, largest_source, IsText, line_at_place, AreCode, IsSyntaxErrorAt, IsReading, AreReadings}
+use Rattle.stan_lexer.proofs.TokenLemmas.{one_php_token_list}
 use Rattle.stan_analyse.proofs.GrammarLemmas.{one_file, one_longest}
 
 -- what the grammar reads of a source

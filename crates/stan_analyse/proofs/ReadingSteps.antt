@@ -2,10 +2,10 @@
 use Rattle.std.proofs.Common.{◌≡◌, ℕ, ◌<◌, ◌≤◌, List, length, get_or, map, Option, refl, sym, ap, subst, ◌∙◌, arith}
 use Rattle.std.specs.List.{All, flat_map}
 use Rattle.std.proofs.lemmas.Option.{slice_get-get_or}
-use Rattle.stan_base.specs.declared.php.Token.{Token}
-use Rattle.stan_base.specs.model.Bytes.{line_of}
-use Rattle.stan_base.specs.model.Grammar.{Top, SpellsFile}
-use Rattle.stan_base.specs.model.Reading as model
+use Rattle.stan_model_grammar.specs.declared.token.Token.{Token}
+use Rattle.stan_base.specs.Bytes.{line_of}
+use Rattle.stan_model_grammar.specs.Files.{Top, SpellsFile}
+use Rattle.stan_model_grammar.specs.Reading as model
 use Rattle.stan_analyse.specs.declared.parser.Front.TheVariants.{Whole, Part}
 use Rattle.stan_analyse.specs.declared.tree.Names as program
 use Rattle.stan_analyse.specs.declared.tree.Reading.TheVariants.{Readable, Broken}

@@ -3,14 +3,14 @@ use Rattle.std.proofs.Common.{◌≡◌, ℕ, ◌+◌, ◌-◌, Bool, true, fals
 use Rattle.std.specs.Prelude.{slice_get}
 use Rattle.std.specs.List.{All}
 use Rattle.std.proofs.lemmas.List.Elements.{All-nil, All-cons}
-use Rattle.stan_base.specs.declared.operators.Leaf.TheVariants as leaves
-use Rattle.stan_base.specs.declared.operators.ArrayStyle.TheVariants as styles
-use Rattle.stan_base.specs.declared.php.Token.{Token}
-use Rattle.stan_base.specs.model.PhpStrata.{loosest, prefix_stratum, binary_stratum, fixity, tighter, right_side}
-use Rattle.stan_base.specs.model.PhpDepth.{is_operation}
-use Rattle.stan_base.specs.model.PhpTrees.{Tree, node, Form, Single, Brackets, Array, IsSet, Empty, Exit, New, Match, Closure, Arrow, Text, Post, Prefix, Assignment, Chain, Binary, Conditional, Items, no_item, items, Item, Positional, Spread, Named, Element, KeyedElement, Parameter, Captured, Arm, DefaultArm, Default, no_default, default, Arguments, no_arguments, arguments, ClassReference, NamedClass, VariableClass, ScopedClass, ComputedClass, MemberName, NamedMember, ComputedMember, Steps, no_step, step, Step, Push, Index, Property, Scoped, Call, Increment, Decrement, Operation, Part, Inserted, Further, Body, Held, Read}
-use Rattle.stan_base.specs.model.PhpGrammar.{ItemSort, argument, element, expression, parameter, captured, arm, StepSort, suffix, class_suffix, part, operation, further, takes_arguments, Reads, Forms, Lists, ItemReads, Defaults, MayBeCalled, Classes, Members, Repeats, StepReads, Bodies, Spells}
-use Rattle.stan_base.specs.model.Sites.{Site, CallSite, BodySite, deeper, left_level, called, sites, form_sites, items_sites, item_sites, default_sites, arguments_sites, class_sites, member_sites, steps_sites, step_sites, body_sites, calls_among}
+use Rattle.stan_model_grammar.specs.declared.operators.Leaf.TheVariants as leaves
+use Rattle.stan_model_grammar.specs.declared.operators.ArrayStyle.TheVariants as styles
+use Rattle.stan_model_grammar.specs.declared.token.Token.{Token}
+use Rattle.stan_model_grammar.specs.Strata.{loosest, prefix_stratum, binary_stratum, fixity, tighter, right_side}
+use Rattle.stan_model_grammar.specs.Depth.{is_operation}
+use Rattle.stan_model_grammar.specs.Trees.{Tree, node, Form, Single, Brackets, Array, IsSet, Empty, Exit, New, Match, Closure, Arrow, Text, Post, Prefix, Assignment, Chain, Binary, Conditional, Items, no_item, items, Item, Positional, Spread, Named, Element, KeyedElement, Parameter, Captured, Arm, DefaultArm, Default, no_default, default, Arguments, no_arguments, arguments, ClassReference, NamedClass, VariableClass, ScopedClass, ComputedClass, MemberName, NamedMember, ComputedMember, Steps, no_step, step, Step, Push, Index, Property, Scoped, Call, Increment, Decrement, Operation, Part, Inserted, Further, Body, Held, Read}
+use Rattle.stan_model_grammar.specs.Expressions.{ItemSort, argument, element, expression, parameter, captured, arm, StepSort, suffix, class_suffix, part, operation, further, takes_arguments, Reads, Forms, Lists, ItemReads, Defaults, MayBeCalled, Classes, Members, Repeats, StepReads, Bodies, Spells}
+use Rattle.stan_model_grammar.specs.Sites.{Site, CallSite, BodySite, deeper, left_level, called, sites, form_sites, items_sites, item_sites, default_sites, arguments_sites, class_sites, member_sites, steps_sites, step_sites, body_sites, calls_among}
 
 module _ (ts : List Token) where
   -- The token is one of the list.
@@ -80,7 +80,7 @@ module _ (ts : List Token) where
       form_stands (Chain j e ss) n pattern k at to h =
           let m = left_level (is_operation e) n in
           both_stand (sites m e) (steps_sites n ss) (sites_stand e m false (tighter j) at h.0 h.4) (steps_stand ss n (operation j) h.0 to h.5)
-      form_stands (Binary d o e) n pattern k at to h =
+      form_stands (Binary d sign o e) n pattern k at to h =
           let m = left_level (is_operation d) n in
           both_stand (sites m d) (sites (deeper n) e) (sites_stand d m false (binary_stratum o - 1) at h.0 h.4)
           (sites_stand e (deeper n) false (right_side (fixity o) (binary_stratum o)) h.1 to h.6)
@@ -142,7 +142,7 @@ module _ (ts : List Token) where
       step_stands (Call es) n sort at to h = items_stand es (deeper n) argument (at + 1) h.1.0 h.1.2
       step_stands Increment n sort at to h = tt
       step_stands Decrement n sort at to h = tt
-      step_stands (Operation o e) n sort at to h = sites_stand e (deeper n) false (tighter (binary_stratum o)) h.0 to h.3
+      step_stands (Operation sign o e) n sort at to h = sites_stand e (deeper n) false (tighter (binary_stratum o)) h.0 to h.3
       step_stands (Part t) n sort at to h = tt
       step_stands (Inserted e) n sort at to h = sites_stand e (deeper n) false loosest (at + 1) h.1.0 h.1.2
       step_stands (Further x) n (further sort) at to h = item_stands x n sort (at + 1) to h.1

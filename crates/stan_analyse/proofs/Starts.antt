@@ -1,15 +1,15 @@
 -- Which tokens cannot begin an expression that is a statement.
 use Rattle.std.proofs.Common.{◌≡◌, ℕ, ◌+◌, ◌-◌, Bool, true, false, Some, List, refl, sym, ap, subst}
 use Rattle.std.specs.Prelude.{IsTrue}
-use Rattle.stan_base.specs.declared.operators.ArrayStyle.TheVariants as styles
-use Rattle.stan_base.specs.declared.operators.Leaf.{Leaf}
-use Rattle.stan_base.specs.declared.operators.PrefixOperator.{PrefixOperator}
-use Rattle.stan_base.specs.declared.php.Token.{Token}
-use Rattle.stan_base.specs.declared.php.TokenKind.{TokenKind}
-use Rattle.stan_base.specs.declared.php.TokenKind.TheVariants as kinds
-use Rattle.stan_base.specs.model.PhpStrata.{kind_at, leaf_of, prefix_of, binary_stratum, tighter, is_exit}
-use Rattle.stan_base.specs.model.PhpTrees.{Tree, node, Form, Single, Brackets, Array, IsSet, Empty, Exit, New, Match, Closure, Arrow, Text, Post, Prefix, Assignment, Chain, Binary, Conditional}
-use Rattle.stan_base.specs.model.PhpGrammar.{Is, May, Reads, Forms}
+use Rattle.stan_model_grammar.specs.declared.operators.ArrayStyle.TheVariants as styles
+use Rattle.stan_model_grammar.specs.declared.operators.Leaf.{Leaf}
+use Rattle.stan_model_grammar.specs.declared.operators.PrefixOperator.{PrefixOperator}
+use Rattle.stan_model_grammar.specs.declared.token.Token.{Token}
+use Rattle.stan_model_grammar.specs.declared.token.TokenKind.{TokenKind}
+use Rattle.stan_model_grammar.specs.declared.token.TokenKind.TheVariants as kinds
+use Rattle.stan_model_grammar.specs.Strata.{kind_at, leaf_of, prefix_of, binary_stratum, tighter, is_exit}
+use Rattle.stan_model_grammar.specs.Trees.{Tree, node, Form, Single, Brackets, Array, IsSet, Empty, Exit, New, Match, Closure, Arrow, Text, Post, Prefix, Assignment, Chain, Binary, Conditional}
+use Rattle.stan_model_grammar.specs.Expressions.{Is, May, Reads, Forms}
 
 -- A name behind `function` makes it a declaration.
 abbrev no_name : TokenKind → Bool
@@ -100,5 +100,5 @@ module _ (ts : List Token) (Stops : ℕ → ℕ → ℕ → Type 0) where
     form_starts (Prefix o e) p k at to h = prefix_starts (kind_at ts at) (kind_at ts (at + 1)) o h.1
     form_starts (Assignment target o e) p k at to h = tree_starts target true 4 at h.0 h.4
     form_starts (Chain j e ss) p k at to h = tree_starts e false (tighter j) at h.0 h.4
-    form_starts (Binary d o e) p k at to h = tree_starts d false (binary_stratum o - 1) at h.0 h.4
+    form_starts (Binary d sign o e) p k at to h = tree_starts d false (binary_stratum o - 1) at h.0 h.4
     form_starts (Conditional c d e) p k at to h = tree_starts c false 21 at h.0 h.3

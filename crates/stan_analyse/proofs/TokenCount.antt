@@ -2,14 +2,14 @@
 use Rattle.std.proofs.Common.{◌≡◌, ℕ, ◌+◌, ◌-◌, ◌<◌, ◌≤◌, zero, suc, List, [], ◌∷◌, ◌++◌, length, take, Some, None, Option, Bool, true, false, cond, sym, subst, arith}
 use Rattle.std.specs.Prelude.{MatchBool, ◌==◌, not, slice_get}
 use Rattle.std.specs.List.{filter}
-use Rattle.stan_base.specs.declared.php.Opening.{Opening}
-use Rattle.stan_base.specs.declared.php.Token.{Token}
-use Rattle.stan_base.specs.declared.php.TokenKind.{TokenKind}
-use Rattle.stan_base.specs.declared.php.TokenKind.TheVariants as kinds
-use Rattle.stan_base.specs.model.PhpBytes.{run_end, blank_at}
-use Rattle.stan_base.specs.model.PhpTokens.{is_in_text, top, open_behind, next_start, is_bad, is_comment, is_attribute_start, is_attribute_end, renamed, as_kind, spanning, is_code, AreLexemes, joined, open_texts, IsOpenText, IsCut, has_opening, opening_start, AreTokens}
-use Rattle.stan_base.specs.model.Reading.{AreCode}
-use Rattle.stan_base.proofs.PhpRunLemmas.{run_end_rises}
+use Rattle.stan_model_grammar.specs.declared.token.Opening.{Opening}
+use Rattle.stan_model_grammar.specs.declared.token.Token.{Token}
+use Rattle.stan_model_grammar.specs.declared.token.TokenKind.{TokenKind}
+use Rattle.stan_model_grammar.specs.declared.token.TokenKind.TheVariants as kinds
+use Rattle.stan_model_grammar.specs.Runs.{run_end, blank_at}
+use Rattle.stan_model_grammar.specs.Tokens.{is_in_text, top, open_behind, next_start, is_bad, is_comment, is_attribute_start, is_attribute_end, renamed, as_kind, spanning, is_code, AreLexemes, joined, open_texts, IsOpenText, IsCut, has_opening, opening_start, AreTokens}
+use Rattle.stan_model_grammar.specs.Reading.{AreCode}
+use Rattle.stan_lexer.proofs.RunEndLemmas.{run_end_rises}
 
 abbrev IsFew : ℕ → List Token → Type 0
 IsFew limit ts = length ts ≤ limit

@@ -1,9 +1,10 @@
 -- The faults of calls, in the order in which the calls are listed.
 use Rattle.std.specs.Prelude.{ℕ, if◌then◌else◌, List, Option, Some, None, map, filter, is_none}
 use Rattle.stan_base.specs.declared.ask_kind.AskKind.TheVariants as kinds
-use Rattle.stan_base.specs.declared.php.Token.{Token}
-use Rattle.stan_base.specs.model.Table.{Exported, answer_of}
-use Rattle.stan_base.specs.model.Faults.{Fault, CallFact, fact_of_call, function_not_found}
+use Rattle.stan_model_grammar.specs.declared.token.Token.{Token}
+use Rattle.stan_model_types.specs.Table.{Exported, answer_of}
+use Rattle.stan_model_facts.specs.Facts.{CallFact, fact_of_call}
+use Rattle.stan_model_verdict.specs.Faults.{Fault, function_not_found}
 
 -- the fault of a call, if the table lacks its function
 abbrev pub fact_fault : List Exported → CallFact → Option Fault

@@ -1,8 +1,8 @@
 -- What holds of the grammar of files and of readings: each is the contract of a function of the module `laws`.
 use Rattle.std.specs.Prelude.{◌≡◌, ℕ, List}
-use Rattle.stan_base.specs.declared.php.Token.{Token}
-use Rattle.stan_base.specs.model.Grammar.{Top, SpellsFile}
-use Rattle.stan_base.specs.model.Reading.{Reading, IsReading, AreReadings}
+use Rattle.stan_model_grammar.specs.declared.token.Token.{Token}
+use Rattle.stan_model_grammar.specs.Files.{Top, SpellsFile}
+use Rattle.stan_model_grammar.specs.Reading.{Reading, IsReading, AreReadings}
 
 -- Tokens spell one list of tops.
 abbrev pub GrammarIsUnambiguous : Type 0

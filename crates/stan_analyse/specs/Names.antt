@@ -1,9 +1,9 @@
 -- The names of the functions of a file, by their tokens.
 use Rattle.std.specs.Prelude.{ℕ, ◌≤◌, List, [], ◌∷◌, length}
-use Rattle.stan_base.specs.declared.php.Token.{Token}
-use Rattle.stan_base.specs.model.Grammar.{Top, Function, Plain, Closing}
-use Rattle.stan_base.specs.model.PhpTokens.{spelling}
-use Rattle.stan_base.specs.model.Table as table
+use Rattle.stan_model_grammar.specs.declared.token.Token.{Token}
+use Rattle.stan_model_grammar.specs.Files.{Top, Function, Plain, Closing}
+use Rattle.stan_model_grammar.specs.Tokens.{spelling}
+use Rattle.stan_model_types.specs.Table as table
 
 -- the name that a top declares
 abbrev pub names_of_top : Top → List Token

@@ -1,17 +1,17 @@
 -- What the parts of the parser find at a place of a list of tokens.
 use Rattle.std.specs.Prelude.{◌≡◌, ℕ, ◌+◌, ◌<◌, ◌≤◌, Bool, true, false, IsTrue, List, [], ◌∷◌, ◌++◌, Option, Some, None, map, length}
 use Rattle.std.specs.List.{flat_map}
-use Rattle.stan_base.specs.declared.php.Token.{Token}
-use Rattle.stan_base.specs.declared.php.TokenKind.{TokenKind}
-use Rattle.stan_base.specs.declared.php.TokenKind.TheVariants as kinds
-use Rattle.stan_base.specs.model.PhpTrees.{Tree}
-use Rattle.stan_base.specs.model.PhpStrata.{kind_at}
-use Rattle.stan_base.specs.model.PhpGrammar.{Is, Stands}
-use Rattle.stan_base.specs.model.PhpDepth.{depth}
-use Rattle.stan_base.specs.model.PhpTakes.{IsTreeOf}
-use Rattle.stan_base.specs.model.Sites as model
-use Rattle.stan_base.specs.model.Grammar.{Statement, Statements, Bodies, Top, ends_statement, ReadsStatement, ReadsStatements, ReadsBodies, ReadsTop, ReadsTops, SpellsFile, IsLongestFront}
-use Rattle.stan_base.specs.model.Faults.{calls_of_statement, calls_of_statements, calls_of_bodies, calls_of_top}
+use Rattle.stan_model_grammar.specs.declared.token.Token.{Token}
+use Rattle.stan_model_grammar.specs.declared.token.TokenKind.{TokenKind}
+use Rattle.stan_model_grammar.specs.declared.token.TokenKind.TheVariants as kinds
+use Rattle.stan_model_grammar.specs.Trees.{Tree}
+use Rattle.stan_model_grammar.specs.Strata.{kind_at}
+use Rattle.stan_model_grammar.specs.Expressions.{Is, Stands}
+use Rattle.stan_model_grammar.specs.Depth.{depth}
+use Rattle.stan_model_grammar.specs.Takes.{IsTreeOf}
+use Rattle.stan_model_grammar.specs.Sites as model
+use Rattle.stan_model_grammar.specs.Files.{Statement, Statements, Bodies, Top, ends_statement, ReadsStatement, ReadsStatements, ReadsBodies, ReadsTop, ReadsTops, SpellsFile, IsLongestFront}
+use Rattle.stan_model_facts.specs.Facts.{calls_of_statement, calls_of_statements, calls_of_bodies, calls_of_top}
 use Rattle.stan_analyse.specs.declared.parser.Front.{Front}
 use Rattle.stan_analyse.specs.declared.parser.Front.TheVariants.{Whole, Part}
 use Rattle.stan_analyse.specs.declared.parser.Plain.{Plain}

@@ -1,9 +1,9 @@
 -- The sites of the model that values of the program stand for.
 use Rattle.std.specs.Prelude.{Bool, true, false, List, [], ◌∷◌, Option, Some, None}
-use Rattle.stan_base.specs.declared.operators.Leaf.TheVariants as leaves
-use Rattle.stan_base.specs.declared.php.Token.{Token}
-use Rattle.stan_base.specs.model.PhpTrees.{Tree, node, Single, Steps, step, Call}
-use Rattle.stan_base.specs.model.Sites as model
+use Rattle.stan_model_grammar.specs.declared.operators.Leaf.TheVariants as leaves
+use Rattle.stan_model_grammar.specs.declared.token.Token.{Token}
+use Rattle.stan_model_grammar.specs.Trees.{Tree, node, Single, Steps, step, Call}
+use Rattle.stan_model_grammar.specs.Sites as model
 use Rattle.stan_analyse.specs.declared.sites.HeldBody.{HeldBody}
 use Rattle.stan_analyse.specs.declared.sites.Site.{Site}
 use Rattle.stan_analyse.specs.declared.sites.Site.TheVariants as sites

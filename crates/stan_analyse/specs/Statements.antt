@@ -1,5 +1,5 @@
 -- Lists of statements and bodies.
-use Rattle.stan_base.specs.model.Grammar.{Statement, Statements, no_statement, statement, Bodies, no_body, body}
+use Rattle.stan_model_grammar.specs.Files.{Statement, Statements, no_statement, statement, Bodies, no_body, body}
 
 -- the statements with one more behind them
 abbrev pub push : Statements → Statement → Statements

@@ -1,9 +1,10 @@
 -- What the program keeps of a file, as the definitions see it.
 use Rattle.std.specs.Prelude.{◌≡◌, ℕ, List}
 use Rattle.std.specs.List.{All}
-use Rattle.stan_base.specs.model.Reading as model
-use Rattle.stan_base.specs.model.Table as table
-use Rattle.stan_base.specs.model.Faults as faults
+use Rattle.stan_model_grammar.specs.Reading as model
+use Rattle.stan_model_types.specs.Table as table
+use Rattle.stan_model_relations.specs.Exports.{exports_of}
+use Rattle.stan_model_verdict.specs.Faults as faults
 use Rattle.stan_analyse.specs.declared.tree.Reading.{Reading}
 use Rattle.stan_analyse.specs.declared.tree.Reading.TheVariants.{Readable, TooLarge, NotUtf8, Broken}
 use Rattle.stan_analyse.specs.Names.{IsWithin}
@@ -30,7 +31,7 @@ IsReadAs source shown = (reading : model.Reading) × model.IsReading source read
 
 -- what the source declares
 abbrev pub AreExports : List ℕ → List table.Exported → Type 0
-AreExports source nodes = (reading : model.Reading) × model.IsReading source reading × (nodes ≡ table.exports_of source reading)
+AreExports source nodes = (reading : model.Reading) × model.IsReading source reading × (nodes ≡ exports_of source reading)
 
 -- the faults of the source over a table
 abbrev pub AreFaults : List table.Exported → List ℕ → List faults.Fault → Type 0

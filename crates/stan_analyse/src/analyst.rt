@@ -1,9 +1,10 @@
 //! The analyst of PHP source.
 
 ghost use Rattle.std.specs.Prelude.{◌≡◌, ◌≤◌, IfOk, map, length, vec_len};
-ghost use Rattle.stan_base.specs.model.Reading as model;
-ghost use Rattle.stan_base.specs.model.Table.{exports_of};
-ghost use Rattle.stan_table.specs.Table.{node_of, IsVerdict};
+ghost use Rattle.stan_model_grammar.specs.Reading as model;
+ghost use Rattle.stan_model_relations.specs.Exports.{exports_of};
+ghost use Rattle.stan_analyst.specs.Verdict.{IsVerdict};
+ghost use Rattle.stan_table.specs.Table.{node_of};
 ghost use Rattle.stan_table.specs.Index.{index_table};
 
 use crate::exports::functions;
@@ -11,7 +12,8 @@ use crate::faults::faults_of;
 use crate::reading::read;
 use crate::tree::Reading;
 use stan_base::OutOfMemory;
-use stan_table::{Exported, Index, Source, Verdict};
+use stan_analyst::Verdict;
+use stan_table::{Exported, Index, Source};
 use std::alloc::Global;
 use std::sync::Arc;
 

@@ -2,8 +2,9 @@
 
 ghost use Rattle.std.specs.Prelude.{◌≡◌, ◌<◌, ◌-◌, ◌^◌, ◌++◌, IfOk, [], ◌∷◌, map, length, codes, option_map, string_bytes};
 ghost use Rattle.std.specs.List.{All};
-ghost use Rattle.stan_base.specs.model.Faults.{fact_of_call, in_order, shown, unreadable};
-ghost use Rattle.stan_table.specs.Table.{fault_of};
+ghost use Rattle.stan_model_facts.specs.Facts.{fact_of_call};
+ghost use Rattle.stan_model_verdict.specs.Faults.{in_order, shown, unreadable};
+ghost use Rattle.stan_analyst.specs.Verdict.{fault_of};
 ghost use Rattle.stan_table.specs.Index.{index_table};
 ghost use Rattle.stan_analyse.specs.Faults.{fact_fault, call_faults};
 ghost use Rattle.stan_analyse.specs.Lines.{AreFeeds};
@@ -14,9 +15,10 @@ use crate::lines::LineFeeds;
 use crate::spelling::spelling_of;
 use crate::tree::Reading;
 use bstr::ByteSlice;
-use stan_base::php::Token;
+use stan_model_grammar::token::Token;
 use stan_base::{AskKind, Name, OutOfMemory, resolved};
-use stan_table::{Ask, Fault, Index};
+use stan_analyst::Fault;
+use stan_table::{Ask, Index};
 use std::alloc::Global;
 
 // The rule on a file that cannot be read.
@@ -147,7 +149,7 @@ fn in_order(mut faults: Vec<Fault>) -> Result<Vec<Fault>, OutOfMemory>
 mod tests {
     use super::*;
     use crate::exports::functions;
-    use stan_base::php::TokenKind;
+    use stan_model_grammar::token::TokenKind;
     use std::test::Fail;
 
     // A declaration and calls, without the marks.

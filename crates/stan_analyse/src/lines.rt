@@ -1,7 +1,7 @@
 //! The lines of a source, for many look-ups: an offset's line is found in logarithmic time.
 
 ghost use Rattle.std.specs.Prelude.{◌≡◌, ◌<◌, ◌^◌, ℕ, List, IfOk, length, vec_len};
-ghost use Rattle.stan_base.specs.model.Bytes.{line_of};
+ghost use Rattle.stan_base.specs.Bytes.{line_of};
 ghost use Rattle.stan_analyse.specs.Lines.{AreFeeds};
 
 use stan_base::OutOfMemory;

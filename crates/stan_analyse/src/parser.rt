@@ -1,11 +1,11 @@
 //! The tops of a file: functions and statements. The trees of expressions are let go once their names are taken.
 
 ghost use Rattle.std.specs.Prelude.{◌≡◌, ◌<◌, ◌≤◌, ◌+◌, ◌++◌, ◌^◌, ◌≢◌, Some, length, map, IfOk};
-ghost use Rattle.stan_base.specs.model.Grammar.{ends_statement, goes_on};
-ghost use Rattle.stan_base.specs.model.PhpGrammar.{IsEnd};
-ghost use Rattle.stan_base.specs.model.PhpDepth.{depth};
-ghost use Rattle.stan_base.specs.model.PhpTakes.{IsTreeOf};
-ghost use Rattle.stan_base.specs.model.Sites.{bodies_among, calls_among};
+ghost use Rattle.stan_model_grammar.specs.Files.{ends_statement, goes_on};
+ghost use Rattle.stan_model_grammar.specs.Expressions.{IsEnd};
+ghost use Rattle.stan_model_grammar.specs.Depth.{depth};
+ghost use Rattle.stan_model_grammar.specs.Takes.{IsTreeOf};
+ghost use Rattle.stan_model_grammar.specs.Sites.{bodies_among, calls_among};
 ghost use Rattle.stan_analyse.specs.Parser.{TokenAt, HeadAt, PlainAt, StatementAt, BodiesAre, BodyIs, BlockAt, TopAt, IsFrontOf, StopsAt};
 ghost use Rattle.stan_analyse.specs.Sites.{site_of, held_of};
 ghost use Rattle.stan_syntax.specs.Tree.{tree_of};
@@ -13,7 +13,7 @@ ghost use Rattle.stan_syntax.specs.Tree.{tree_of};
 use crate::sites::{HeldBody, Site, sites_of};
 use crate::tree::Names;
 use stan_base::OutOfMemory;
-use stan_base::php::{Token, TokenKind};
+use stan_model_grammar::token::{Token, TokenKind};
 use stan_expr::{Parsed, after, expression, kind_at, token_at};
 use stan_syntax::Expr;
 use std::alloc::Global;

@@ -1,14 +1,14 @@
 //! The reading of a file: the names of its functions, or why it cannot be read.
 
 ghost use Rattle.std.specs.Prelude.{◌≡◌, ◌<◌, ◌≤◌, length, IfOk};
-ghost use Rattle.stan_base.specs.model.Reading.{AreCode, IsText, IsSyntaxErrorAt};
+ghost use Rattle.stan_model_grammar.specs.Reading.{AreCode, IsText, IsSyntaxErrorAt};
 ghost use Rattle.stan_analyse.specs.Parser.{IsFrontOf};
 ghost use Rattle.stan_analyse.specs.Tree.{IsReadAs};
 
 use crate::parser::{Front, read_front, stop};
 use crate::tree::Reading;
 use bstr::ByteSlice;
-use stan_base::php::Token;
+use stan_model_grammar::token::Token;
 use stan_base::{OutOfMemory, line_at};
 use stan_lexer::{code_tokens, lex};
 use std::alloc::Global;

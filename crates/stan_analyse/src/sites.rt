@@ -2,13 +2,14 @@
 
 ghost use Rattle.std.specs.Prelude.{◌≡◌, ◌++◌, [], ◌∷◌, IfOk, map, option_map};
 ghost use Rattle.std.specs.List.{flat_map};
-ghost use Rattle.stan_base.specs.model.PhpDepth.{is_operation};
-ghost use Rattle.stan_base.specs.model.Sites as model;
-ghost use Rattle.stan_syntax.specs.Tree.{tree_of, form_of, arguments_of, argument_of, element_of, parameter_of, arm_of, class_of, suffix_of, member_of, operation_of, part_of, body_of, statement_of, may_be_called, steps};
+ghost use Rattle.stan_model_grammar.specs.Depth.{is_operation};
+ghost use Rattle.stan_model_grammar.specs.Sites as model;
+ghost use Rattle.stan_model_grammar.specs.TreeLists.{may_be_called, steps};
+ghost use Rattle.stan_syntax.specs.Tree.{tree_of, form_of, arguments_of, argument_of, element_of, parameter_of, arm_of, class_of, suffix_of, member_of, operation_of, part_of, body_of, statement_of};
 ghost use Rattle.stan_analyse.specs.Sites.{site_of, call_of, is_name, begins_with_call};
 
 use stan_base::OutOfMemory;
-use stan_base::php::Token;
+use stan_model_grammar::token::Token;
 use stan_syntax::{
     Argument, Arguments, Arm, Body, ClassReference, Element, Expr, Form, Leaf, MemberName,
     Operation, Parameter, Stmt, Suffix, TextPart,

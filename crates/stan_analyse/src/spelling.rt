@@ -1,9 +1,9 @@
 //! The bytes that a token spells.
 
 ghost use Rattle.std.specs.Prelude.{◌≡◌, ◌≤◌, length};
-ghost use Rattle.stan_base.specs.model.PhpTokens.{spelling};
+ghost use Rattle.stan_model_grammar.specs.Tokens.{spelling};
 
-use stan_base::php::Token;
+use stan_model_grammar::token::Token;
 
 /// The bytes of a source that a token spells.
 pub fn spelling_of<'a>(source: &'a [u8], token: &Token) -> &'a [u8]

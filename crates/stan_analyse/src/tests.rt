@@ -5,7 +5,7 @@ use crate::faults::faults_of;
 use crate::lines::LineFeeds;
 use crate::reading::read;
 use crate::spelling::spelling_of;
-use stan_base::php::{Token, TokenKind};
+use stan_model_grammar::token::{Token, TokenKind};
 use stan_table::Index;
 use std::test::Fail;
 

@@ -1,6 +1,6 @@
 //! What is kept of a file that was read.
 
-use stan_base::php::Token;
+use stan_model_grammar::token::Token;
 
 /// The functions of a file, by the tokens of their names.
 #[derive(Drop)]

@@ -1,10 +1,3 @@
 pub mod LineLemmas
 pub mod Orders
-pub mod PhpInsideLemmas
-pub mod PhpMarkLemmas
-pub mod PhpOrderLemmas
-pub mod PhpRunLemmas
-pub mod PhpSizeLemmas
-pub mod PhpTokenLemmas
-pub mod PhpTreeLemmas
 pub mod SortLemmas

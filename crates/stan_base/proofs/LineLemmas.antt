@@ -4,7 +4,7 @@ use Rattle.std.specs.Prelude.{◌==◌}
 use Rattle.std.specs.List.{count_by}
 use Rattle.std.proofs.lemmas.List.{take-take}
 use Rattle.std.proofs.lemmas.List.Sums.{sum_by-take-le}
-use Rattle.stan_base.specs.model.Bytes.{line_of}
+use Rattle.stan_base.specs.Bytes.{line_of}
 
 pub line_of-le : (source : List ℕ) (a b : ℕ) → a ≤ b → line_of source a ≤ line_of source b
 unfolding line_of

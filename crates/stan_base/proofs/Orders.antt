@@ -17,9 +17,6 @@ use Rattle.std.proofs.lemmas.Map.Views.{Contains-from_any, list_any-from_Contain
 use Rattle.std.proofs.lemmas.List.Elements.{filter_agree}
 use Rattle.std.proofs.lemmas.List.Folds.{Any-from_list_any, list_any-from_Any}
 use Rattle.std.proofs.lemmas.Bool.{false≢true}
-use Rattle.stan_base.specs.model.Faults.{Fault, fault_cmp, in_order}
-use Rattle.stan_base.specs.model.Reading.{largest_source}
-use Rattle.stan_base.specs.model.Project.{Contents, normal_path, is_chosen, chooses, chosen_files, paths_of}
 
 -- ---- tests
 
@@ -40,7 +37,7 @@ is_less Less p = refl
 is_less Equal p = absurd p
 is_less Greater p = absurd p
 
-same_test : (a b : Bool) → (a ≡ true → b ≡ true) → (b ≡ true → a ≡ true) → a ≡ b
+pub same_test : (a b : Bool) → (a ≡ true → b ≡ true) → (b ≡ true → a ≡ true) → a ≡ b
 same_test true b f g = sym (f refl)
 same_test false true f g = g refl
 same_test false false f g = refl
@@ -149,80 +146,3 @@ module _ {K : Type 0} {R : K → K → Ordering} (o : IsTotalOrder R) (a : IsAnt
   pub members_in_order_alike : (xs ys : List K) → ((x : K) → Contains xs x → Contains ys x) → ((x : K) → Contains ys x → Contains xs x) → members_in_order R xs ≡ members_in_order R ys
   members_in_order_alike xs ys f g =
       members_in_order_are ys _ (items-sorted _) (λ x h. (Contains-members_in_order xs x).1 (g x h)) (λ x h. f x ((Contains-members_in_order xs x).0 h))
-
--- ---- faults
-
-pub fault_cmp_total : IsTotalOrder fault_cmp
-fault_cmp_total = then_total (on_total (λ (f : Fault). f.line) nat_cmp_total) (then_total (on_total (λ (f : Fault). f.rule) nat_cmp_total) (on_total (λ (f : Fault). f.text) nat_list_cmp_total))
-
--- an order that decides equality, through a part, and then another
-equal_parts : (a b : Ordering) → ordering_then a b ≡ Equal → (a ≡ Equal) × (b ≡ Equal)
-equal_parts Less b e = cc
-equal_parts Equal b e = (refl, e)
-equal_parts Greater b e = cc
-
-pub fault_cmp-IsAntisymmetric : IsAntisymmetric fault_cmp
-fault_cmp-IsAntisymmetric x y e =
-    let line = equal_parts _ _ e in
-    let rule = equal_parts _ _ line.1 in
-    let lines = nat_cmp-IsAntisymmetric _ _ line.0 in
-    let rules = nat_cmp-IsAntisymmetric _ _ rule.0 in
-    let texts = slice_cmp-IsAntisymmetric nat_cmp-IsAntisymmetric _ _ rule.1 in
-    λ i. record { line = lines i; rule = rules i; text = texts i }
-
--- a list of faults in strict order with the members of another
-pub in_order_is : (faults ys : List Fault) → IsStrictlySortedBy fault_cmp ys → ((f : Fault) → Contains faults f → Contains ys f) → ((f : Fault) → Contains ys f → Contains faults f) → ys ≡ in_order faults
-in_order_is = members_in_order_are fault_cmp_total fault_cmp-IsAntisymmetric
-
--- lists with the same members
-pub in_order_alike : (xs ys : List Fault) → ((f : Fault) → Contains xs f → Contains ys f) → ((f : Fault) → Contains ys f → Contains xs f) → in_order xs ≡ in_order ys
-in_order_alike = members_in_order_alike fault_cmp_total fault_cmp-IsAntisymmetric
-
--- ---- chosen files
-
-list_any-map : (p : List ℕ → Bool) (paths : List (List ℕ)) → list_any p (map normal_path paths) ≡ list_any (λ path. p (normal_path path)) paths
-list_any-map p [] = refl
-list_any-map p (path ∷ paths) = ap (λ b. p (normal_path path) || b) (list_any-map p paths)
-
-keys_through : (f : List ℕ → List ℕ) (files : List (List ℕ × List ℕ)) → map (λ file. file.0) files ≡ paths_of (map (λ file. (file.0, f file.1)) files)
-keys_through f [] = refl
-keys_through f (file ∷ files) = ap (λ ps. file.0 ∷ ps) (keys_through f files)
-
-pub path_cmp-IsAntisymmetric : IsAntisymmetric (slice_cmp nat_cmp)
-path_cmp-IsAntisymmetric = slice_cmp-IsAntisymmetric nat_cmp-IsAntisymmetric
-
--- a test that one of the paths passes, whatever their order
-some_path : (p : List ℕ → Bool) (paths others : List (List ℕ)) → ((path : List ℕ) → Contains paths path → Contains others path) → list_any p (map normal_path paths) ≡ true → list_any p (map normal_path others) ≡ true
-some_path p paths others f h =
-    let one = Any-from_list_any (λ path. p (normal_path path)) paths (sym (list_any-map p paths) ∙ h) in
-    let there : Contains others one.1 = f one.1 (one.0, one.2, one.3) in
-    list_any-map p others ∙ list_any-from_Any (λ path. p (normal_path path)) others (there.0, one.1, there.1, there.2, one.4)
-
--- paths given in another order choose the same
-pub chosen_alike : (paths others : List (List ℕ)) (contents : Contents) → ((path : List ℕ) → Contains paths path ↔ Contains others path) → chosen_files paths contents ≡ chosen_files others contents
-chosen_alike paths others contents same =
-    ap (map (λ file. (file.0, take (largest_source + 1) file.1)))
-    (filter_agree (λ file. is_chosen (map normal_path paths) file.0) (λ file. is_chosen (map normal_path others) file.0)
-    (λ file. same_test _ _ (some_path (λ path. chooses path file.0) paths others (λ path. (same path).0)) (some_path (λ path. chooses path file.0) others paths (λ path. (same path).1)))
-    (finite.entries contents))
-
-module _ (contents : Contents) (paths : List (List ℕ)) where
-  abbrev chosen_entries : List (List ℕ × List ℕ)
-  chosen_entries = where_key (slice_cmp nat_cmp) (is_chosen (map normal_path paths)) (finite.entries contents)
-
-  paths-chosen_entries : map (λ file. file.0) chosen_entries ≡ paths_of (chosen_files paths contents)
-  paths-chosen_entries = keys_through (take (largest_source + 1)) chosen_entries
-
-  pub chosen-sorted : IsStrictlySortedBy (slice_cmp nat_cmp) (paths_of (chosen_files paths contents))
-  chosen-sorted = subst (IsStrictlySortedBy (slice_cmp nat_cmp)) paths-chosen_entries (IsStrictlySortedBy-keys _ chosen_entries (is_sorted-where_key (slice_cmp nat_cmp) (is_chosen (map normal_path paths)) (finite.entries contents) (finite.entries_sorted contents)))
-
-  pub Contains-chosen : (p : List ℕ) → Contains (paths_of (chosen_files paths contents)) p ↔ (IsSome (finite.get contents p) × IsTrue (is_chosen (map normal_path paths) p))
-  Contains-chosen p = subst (λ ps. Contains ps p ↔ (IsSome (finite.get contents p) × IsTrue (is_chosen (map normal_path paths) p))) paths-chosen_entries
-      (Contains-where_key nat_list_cmp_total path_cmp-IsAntisymmetric contents (is_chosen (map normal_path paths)) p)
-
-  -- a list in strict order of the paths that are chosen
-  pub chosen_are : (ys : List (List ℕ)) → IsStrictlySortedBy (slice_cmp nat_cmp) ys → ((p : List ℕ) → Contains ys p → IsSome (finite.get contents p) × IsTrue (is_chosen (map normal_path paths) p)) → ((p : List ℕ) → IsSome (finite.get contents p) → IsTrue (is_chosen (map normal_path paths) p) → Contains ys p) → ys ≡ paths_of (chosen_files paths contents)
-  chosen_are ys h f g =
-      strictly_sorted_unique nat_list_cmp_total path_cmp-IsAntisymmetric ys _ h chosen-sorted
-      (λ p c. (Contains-chosen p).1 (f p c))
-      (λ p c. let both = (Contains-chosen p).0 c in g p both.0 both.1)

@@ -1,3 +1,4 @@
+pub mod Bytes
 pub mod Laws
 pub mod Name
-pub mod model
+pub mod Names

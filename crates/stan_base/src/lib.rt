@@ -1,4 +1,4 @@
-//! Names, tokens and lines of PHP source, and the definitions that every other crate's contracts cite (`specs/model`).
+//! Names and lines of PHP source, as every other crate reads them.
 #![tactic(auto)]
 
 mod ask_kind;
@@ -6,10 +6,6 @@ pub mod laws;
 mod line;
 mod memory;
 mod name;
-pub mod operators;
-pub mod php;
-#[cfg(test)]
-mod tests;
 
 pub use ask_kind::AskKind;
 pub use line::line_at;

@@ -1,10 +1,10 @@
 //! Lines of a source.
 
 ghost use Rattle.std.specs.Prelude.{◌≡◌, ◌<◌, ◌≤◌, length};
-ghost use Rattle.stan_base.specs.model.Bytes.{line_of};
+ghost use Rattle.stan_base.specs.Bytes.{line_of};
 
 /// The line of the byte at an offset, from 1: one more than the number of line feeds before it.
-#[tactic(auto, unfolding(crate::specs::model::Bytes::line_of))]
+#[tactic(auto, unfolding(crate::specs::Bytes::line_of))]
 pub fn line_at(source: &[u8], offset: u32) -> u32
     requires within { offset ≤ length source.now }
     requires below { offset < u32.MAX }

@@ -2,9 +2,9 @@
 
 ghost use Rattle.std.specs.Prelude.{◌≡◌, ◌↔◌, IsTrue, IfOk};
 ghost use Rattle.stan_base.specs.Name.{name_bytes};
-ghost use Rattle.stan_base.specs.model.Bytes.{fold_case};
-ghost use Rattle.stan_base.specs.model.Names.{resolved};
-ghost use Rattle.stan_base.specs.model.PhpWords.{begins_relative};
+ghost use Rattle.stan_base.specs.Bytes.{fold_case};
+ghost use Rattle.stan_base.specs.Names.{resolved};
+ghost use Rattle.stan_base.specs.Names.{begins_relative};
 
 use crate::OutOfMemory;
 use std::alloc::Global;

@@ -2,7 +2,8 @@
 use Rattle.std.specs.Prelude.{◌≡◌, ◌↔◌, ◌-◌, ◌<◌, ◌≤◌, ℕ, List, [], ◌∷◌, ◌++◌, Some, None, IfSome, IsNone, IsSome, codes, decimal, length, map, replicate, string_bytes}
 use Rattle.std.specs.FinMap as finite
 use Rattle.std.specs.List.{flat_map, range_with_len}
-use Rattle.stan_base.specs.model.Project.{Contents, sources_of, most_files, excess_from}
+use Rattle.stan_outside.specs.Contents.{Contents}
+use Rattle.stan_cli.specs.Project.{sources_of, most_files, excess_from}
 use Rattle.stan_cases.specs.declared.case.Case.{Case}
 use Rattle.stan_cases.specs.declared.case.Files.{Files}
 use Rattle.stan_cases.specs.declared.case.Place.{Place}

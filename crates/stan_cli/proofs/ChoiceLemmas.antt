@@ -3,8 +3,9 @@ use Rattle.std.proofs.Common.{◌≡◌, ℕ, List, map, length, Bool, true, sym
 use Rattle.std.proofs.lemmas.List.{length-map}
 use Rattle.std.specs.Prelude.{filter}
 use Rattle.std.specs.List.{Contains}
-use Rattle.stan_base.specs.model.Project.{Contents, normal_path, is_chosen, chosen_files, paths_of}
-use Rattle.stan_base.proofs.Orders.{chosen_are}
+use Rattle.stan_outside.specs.Contents.{Contents}
+use Rattle.stan_cli.specs.Project.{normal_path, is_chosen, chosen_files, paths_of}
+use Rattle.stan_cli.proofs.ChosenLemmas.{chosen_are}
 use Rattle.stan_outside.specs.Outside.{Lists}
 use Rattle.stan_base.proofs.SortLemmas.{Contains-map, item_from_Contains-map}
 use Rattle.stan_cli.specs.Choice.{IsInOrder, IsChoice}

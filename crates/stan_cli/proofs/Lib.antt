@@ -1,4 +1,5 @@
 pub mod ChoiceLemmas
+pub mod ChosenLemmas
 pub mod ListLemmas
 pub mod ProjectLemmas
 pub mod ReportLemmas

@@ -4,10 +4,11 @@ use Rattle.std.specs.List.{sum_by}
 use Rattle.std.proofs.lemmas.List.{take_more, append-nil}
 use Rattle.std.proofs.lemmas.Bool.{ltb-false}
 use Rattle.std.proofs.lemmas.List.Sums.{sum_by-cons}
-use Rattle.stan_base.specs.model.Reading.{Reading, IsReading, AreReadings}
-use Rattle.stan_base.specs.model.Table.{Exported, exports_of, table_of}
-use Rattle.stan_base.specs.model.Faults.{Fault, faults_of}
-use Rattle.stan_base.specs.model.Project.{most_bytes, excess_from, sources_of}
+use Rattle.stan_model_grammar.specs.Reading.{Reading, IsReading, AreReadings}
+use Rattle.stan_model_relations.specs.Exports.{exports_of, table_of}
+use Rattle.stan_model_types.specs.Table.{Exported}
+use Rattle.stan_model_verdict.specs.Faults.{Fault, faults_of}
+use Rattle.stan_cli.specs.Project.{most_bytes, excess_from, sources_of}
 use Rattle.stan_analyse.proofs.ReadingLemmas.{one_readings}
 use Rattle.stan_cli.specs.Raw.{raw_text}
 use Rattle.stan_cli.specs.Report.{IsReport, IsTable, AreJudged, judged, status_of}

@@ -7,7 +7,8 @@ use Rattle.std.proofs.lemmas.Slice.Zip.{length-zip, seconds-zip}
 use Rattle.stan_analyse.proofs.ReadingLemmas.{one_readings}
 use Rattle.stan_cli.specs.Raw.{raw_text}
 use Rattle.stan_cli.specs.Report.{IsReport, faults_of_project}
-use Rattle.stan_base.specs.model.Project.{Contents, chosen_files, paths_of, sources_of, most_files, excess_from}
+use Rattle.stan_outside.specs.Contents.{Contents}
+use Rattle.stan_cli.specs.Project.{chosen_files, paths_of, sources_of, most_files, excess_from}
 use Rattle.stan_cli.specs.declared.refusal.Refusal.{Refusal}
 use Rattle.stan_cli.specs.declared.refusal.Refusal.TheVariants.{BadWords, Limit, TreeFault, SinkFault, OutOfMemory}
 use Rattle.stan_cli.specs.declared.refusal.Which.TheVariants.{Files, Bytes}

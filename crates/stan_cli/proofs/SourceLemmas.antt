@@ -3,7 +3,8 @@ use Rattle.std.proofs.Common.{◌≡◌, ℕ, ◌+◌, ◌≤◌, ◌<◌, List,
 use Rattle.std.proofs.Common.{suc, drop-cons}
 use Rattle.std.proofs.lemmas.List.{append-nil, map-append, take-append-drop}
 use Rattle.std.proofs.lemmas.Bool.{lt-ltb, le-ltb}
-use Rattle.stan_base.specs.model.Project.{Contents, most_bytes, excess_from}
+use Rattle.stan_outside.specs.Contents.{Contents}
+use Rattle.stan_cli.specs.Project.{most_bytes, excess_from}
 use Rattle.stan_outside.specs.Outside.{Rose}
 use Rattle.stan_cli.specs.Sources.{KeepsTree}
 

@@ -4,7 +4,7 @@ use Rattle.std.specs.List.{Contains}
 use Rattle.std.specs.List.Sorted.{IsStrictlySortedBy}
 use Rattle.std.specs.Ordering.{nat_cmp}
 use Rattle.std.specs.Cmp.Lexicographic.{slice_cmp}
-use Rattle.stan_base.specs.model.Project.{normal_path, is_chosen}
+use Rattle.stan_cli.specs.Project.{normal_path, is_chosen}
 
 -- the same paths in byte order, each once
 pub record IsInOrder (paths ordered : List (List ℕ)) : Type 0 where

@@ -1,6 +1,8 @@
 pub mod About
 pub mod Choice
 pub mod Files
+pub mod Laws
+pub mod Project
 pub mod Raw
 pub mod Refusal
 pub mod Report

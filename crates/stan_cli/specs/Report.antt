@@ -1,10 +1,11 @@
 -- The report of a project: each file is judged over the table of all.
 use Rattle.std.specs.Prelude.{◌≡◌, ℕ, ◌==◌, not, if◌then◌else◌, List, [], ◌∷◌, length}
 use Rattle.std.specs.List.{list_any}
-use Rattle.stan_base.specs.model.Reading.{Reading, AreReadings}
-use Rattle.stan_base.specs.model.Table.{Exported, table_of}
-use Rattle.stan_base.specs.model.Faults.{Fault, faults_of}
-use Rattle.stan_base.specs.model.Project.{sources_of}
+use Rattle.stan_model_grammar.specs.Reading.{Reading, AreReadings}
+use Rattle.stan_model_relations.specs.Exports.{table_of}
+use Rattle.stan_model_types.specs.Table.{Exported}
+use Rattle.stan_model_verdict.specs.Faults.{Fault, faults_of}
+use Rattle.stan_cli.specs.Project.{sources_of}
 use Rattle.stan_cli.specs.Raw.{raw_text}
 
 -- each path with the faults of its source over a table

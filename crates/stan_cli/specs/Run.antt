@@ -1,6 +1,7 @@
 -- What a run comes to: its report, or why there is none.
 use Rattle.std.specs.Prelude.{◌≡◌, ◌<◌, ◌≤◌, ℕ, List, ◌++◌, length, take, drop, Some, None, Result, Ok, Err}
-use Rattle.stan_base.specs.model.Project.{Contents, chosen_files, sources_of, most_files, excess_from}
+use Rattle.stan_outside.specs.Contents.{Contents}
+use Rattle.stan_cli.specs.Project.{chosen_files, sources_of, most_files, excess_from}
 use Rattle.stan_outside.specs.Outside.{Rose}
 use Rattle.stan_cli.specs.declared.refusal.Refusal.{Refusal}
 use Rattle.stan_cli.specs.declared.refusal.Refusal.TheVariants.{BadWords, Limit, TreeFault, SinkFault, OutOfMemory}

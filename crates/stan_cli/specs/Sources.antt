@@ -4,8 +4,9 @@ use Rattle.std.specs.List.{Contains}
 use Rattle.std.specs.FinMap as finite
 use Rattle.std.specs.declared.sync.Arc.{Arc}
 use Rattle.std.specs.declared.alloc.Global.{Global}
-use Rattle.stan_base.specs.model.Reading.{largest_source}
-use Rattle.stan_base.specs.model.Project.{Contents, most_files, excess_from}
+use Rattle.stan_model_grammar.specs.Reading.{largest_source}
+use Rattle.stan_outside.specs.Contents.{Contents}
+use Rattle.stan_cli.specs.Project.{most_files, excess_from}
 use Rattle.stan_outside.specs.Outside.{Rose}
 use Rattle.stan_table.specs.declared.source.Source.{Source}
 use Rattle.stan_cli.specs.declared.refusal.Refusal.{Refusal}

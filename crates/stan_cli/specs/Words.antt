@@ -3,7 +3,7 @@ use Rattle.std.specs.Prelude.{ℕ, ◌==◌, ◌&&◌, not, if◌then◌else◌,
 use Rattle.std.specs.List.{list_any, list_all, starts_with}
 use Rattle.std.specs.Prelude.{nat_eq}
 use Rattle.std.specs.Str.{bytes_eq}
-use Rattle.stan_base.specs.model.Project.{leads_outside}
+use Rattle.stan_cli.specs.Project.{leads_outside}
 use Rattle.stan_cli.specs.declared.words.WordsPart.{WordsPart}
 use Rattle.stan_cli.specs.declared.words.WordsPart.TheVariants.{Command, Options, Value}
 

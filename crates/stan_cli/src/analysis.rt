@@ -2,9 +2,9 @@
 
 ghost use Rattle.std.specs.Prelude.{◌≡◌, ◌==◌, not, map, length, string_bytes, None, IfOk};
 ghost use Rattle.std.specs.List.{zip, list_any};
-ghost use Rattle.stan_base.specs.model.Project.{excess_from};
+ghost use Rattle.stan_cli.specs.Project.{excess_from};
 ghost use Rattle.stan_table.specs.Index.{index_table};
-ghost use Rattle.stan_table.specs.Table.{fault_of};
+ghost use Rattle.stan_analyst.specs.Verdict.{fault_of};
 ghost use Rattle.stan_cli.specs.Files.{file_of};
 ghost use Rattle.stan_cli.specs.Report.{IsReport, IsTable, AreJudged, status_of};
 ghost use Rattle.stan_cli.specs.Sources.{source_bytes};
@@ -12,7 +12,8 @@ ghost use Rattle.stan_cli.specs.Sources.{source_bytes};
 use crate::raw::raw;
 use stan_analyse::PhpAnalyst;
 use stan_base::OutOfMemory;
-use stan_table::{FileFaults, Index, Source, Verdict};
+use stan_analyst::{FileFaults, Verdict};
+use stan_table::{Index, Source};
 use std::alloc::Global;
 use std::sync::Arc;
 

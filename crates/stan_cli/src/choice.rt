@@ -1,7 +1,8 @@
 //! The files that the given paths choose.
 
 ghost use Rattle.std.specs.Prelude.{◌≡◌, map, filter, string_bytes, IfOk, OnOk};
-ghost use Rattle.stan_base.specs.model.Project.{normal_path, parts_of, is_proper_part, is_chosen, is_under, chooses};
+ghost use Rattle.stan_outside.specs.Contents.{parts_of, is_proper_part};
+ghost use Rattle.stan_cli.specs.Project.{normal_path, is_chosen, is_under, chooses};
 ghost use Rattle.stan_cli.specs.Choice.{IsInOrder, IsChoice};
 
 use stan_base::OutOfMemory;

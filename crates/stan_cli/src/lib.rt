@@ -3,6 +3,7 @@
 
 mod analysis;
 mod choice;
+pub mod laws;
 mod outcome;
 mod raw;
 mod refusal;

@@ -1,12 +1,12 @@
 //! The raw report.
 
 ghost use Rattle.std.specs.Prelude.{◌≡◌, ◌++◌, map, string_bytes, IfOk, OnOk};
-ghost use Rattle.stan_table.specs.Table.{fault_of};
+ghost use Rattle.stan_analyst.specs.Verdict.{fault_of};
 ghost use Rattle.stan_cli.specs.Raw.{raw_text, raw_lines, raw_line};
 ghost use Rattle.stan_cli.specs.Files.{file_of};
 
 use stan_base::OutOfMemory;
-use stan_table::{Fault, FileFaults};
+use stan_analyst::{Fault, FileFaults};
 use std::alloc::Global;
 
 /// A line `PATH:LINE:TEXT` for each fault.

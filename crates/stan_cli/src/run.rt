@@ -2,7 +2,7 @@
 
 ghost use Rattle.std.specs.Prelude.{◌≡◌, ◌≤◌, ◌<◌, ◌↔◌, ℕ, List, map, length, string_bytes, None, Some, Err, IfOk, IfErr, IfSome, IsNone, IsSome};
 ghost use Rattle.std.specs.List.{zip};
-ghost use Rattle.stan_base.specs.model.Project.{chosen_files, sources_of, most_files, excess_from};
+ghost use Rattle.stan_cli.specs.Project.{chosen_files, sources_of, most_files, excess_from};
 ghost use Rattle.stan_cli.specs.Sources.{source_bytes, KeepsTree};
 ghost use Rattle.stan_cli.specs.Words.{refused_part};
 ghost use Rattle.stan_cli.specs.Report.{IsReport};

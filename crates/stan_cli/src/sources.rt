@@ -2,8 +2,8 @@
 
 ghost use Rattle.std.specs.Prelude.{◌≡◌, ◌≤◌, ◌<◌, ◌+◌, map, length, string_bytes, None, IfOk, IfErr, IsSome};
 ghost use Rattle.std.specs.FinMap as finite;
-ghost use Rattle.stan_base.specs.model.Project.{chosen_files, paths_of, most_files, excess_from};
-ghost use Rattle.stan_base.specs.model.Reading.{largest_source};
+ghost use Rattle.stan_cli.specs.Project.{chosen_files, paths_of, most_files, excess_from};
+ghost use Rattle.stan_model_grammar.specs.Reading.{largest_source};
 ghost use Rattle.stan_cli.specs.Sources.{source_bytes, source_at, AreHeld, KeepsTree, IsTreeRefusal, IsListRefusal, IsReadRefusal};
 
 use crate::choice::chosen;

@@ -2,7 +2,7 @@
 
 ghost use Rattle.std.specs.Prelude.{◌≡◌, map, string_bytes};
 ghost use Rattle.std.specs.List.{list_any};
-ghost use Rattle.stan_base.specs.model.Project.{leads_outside, has_parent_part};
+ghost use Rattle.stan_cli.specs.Project.{leads_outside, has_parent_part};
 ghost use Rattle.stan_cli.specs.Words.{refused_part, refused_options, refused_paths, are_positional, none_is_option};
 
 /// Which part of the words is refused.

@@ -1,20 +1,20 @@
 -- Why the answers of the parser are right.
 use Rattle.std.proofs.Common.{◌≡◌, ℕ, ◌+◌, ◌≤◌, ◌<◌, List, Option, Some, None, arith, sym, ap, ◌∙◌, Bool, true, false, length}
 use Rattle.std.specs.Prelude.{IsTrue}
-use Rattle.stan_base.specs.declared.php.Token.{Token}
-use Rattle.stan_base.specs.model.PhpDepth.{depth}
-use Rattle.stan_base.specs.model.PhpGrammar.{Spells, IsEnd}
-use Rattle.stan_base.specs.model.PhpStrata.{loosest}
-use Rattle.stan_base.specs.model.PhpTakes.{IsTreeOf}
-use Rattle.stan_base.specs.model.PhpTrees.{Tree}
+use Rattle.stan_model_grammar.specs.declared.token.Token.{Token}
+use Rattle.stan_model_grammar.specs.Depth.{depth}
+use Rattle.stan_model_grammar.specs.Expressions.{Spells, IsEnd}
+use Rattle.stan_model_grammar.specs.Strata.{loosest}
+use Rattle.stan_model_grammar.specs.Takes.{IsTreeOf}
+use Rattle.stan_model_grammar.specs.Trees.{Tree}
 use Rattle.stan_expr.specs.Answer.{TokensHaveATree, ExpressionsEndAtOnePlace}
-use Rattle.stan_expr.specs.Parse.{expression_at}
-use Rattle.stan_expr.proofs.Complete.{expression_complete, one_is_picked}
-use Rattle.stan_base.proofs.PhpInsideLemmas.{reads_inside}
-use Rattle.stan_expr.proofs.Greedy.{Near, Picks}
-use Rattle.stan_expr.proofs.Law.{some_is_picked}
-use Rattle.stan_expr.proofs.Sound.{expression_sound}
-use Rattle.stan_expr.proofs.Takes.{picked_is_tree}
+use Rattle.stan_expr_rules.specs.Parse.{expression_at}
+use Rattle.stan_expr_greedy.proofs.Complete.{expression_complete, one_is_picked}
+use Rattle.stan_expr_law.proofs.InsideLemmas.{reads_inside}
+use Rattle.stan_expr_rules.proofs.Greedy.{Near, Picks}
+use Rattle.stan_expr_law.proofs.Law.{some_is_picked}
+use Rattle.stan_expr_greedy.proofs.Sound.{expression_sound}
+use Rattle.stan_expr_takes.proofs.Takes.{picked_is_tree}
 
 -- the tree of tokens that some tree spells
 pub has_tree : TokensHaveATree

@@ -1,9 +1,9 @@
 -- `? :` by its second and third part.
 use Rattle.std.proofs.Common.{◌≡◌, ℕ, Bool, false, List, Option, Some, None, refl}
-use Rattle.stan_base.specs.declared.php.Token.{Token}
-use Rattle.stan_base.specs.model.PhpTrees.{Tree, node, Conditional}
+use Rattle.stan_model_grammar.specs.declared.token.Token.{Token}
+use Rattle.stan_model_grammar.specs.Trees.{Tree, node, Conditional}
 use Rattle.stan_expr.specs.Branches.{branches}
-use Rattle.stan_expr.specs.Parse.{Read, ◌>>=◌, first_of, conditional}
+use Rattle.stan_expr_rules.specs.Parse.{Read, ◌>>=◌, first_of, conditional}
 
 chained : {A B C : Type 0} (m : Option A) (f : A → Option B) (g : B → Option C) (h : A → Option C) → ((x : A) → h x ≡ (f x >>= g)) → (m >>= h) ≡ ((m >>= f) >>= g)
 chained None f g h e = refl

@@ -1,14 +1,14 @@
 -- Lists of the program as lists of the model, and the nodes that hold them.
 use Rattle.std.proofs.Common.{◌≡◌, ℕ, Bool, false, List, [], ◌∷◌, Some, refl, ap, subst}
 use Rattle.std.specs.Prelude.{map, IsTrue, ◌↔◌}
-use Rattle.stan_base.specs.model.PhpTrees as model
+use Rattle.stan_model_grammar.specs.Trees as model
 use Rattle.stan_syntax.specs.declared.tree.Expr.{Expr, roll-Expr}
 use Rattle.stan_syntax.specs.declared.tree.Form.TheVariants as forms
 use Rattle.stan_syntax.specs.declared.tree.Operation.{Operation}
 use Rattle.stan_syntax.specs.declared.tree.Suffix.{Suffix}
 use Rattle.stan_syntax.specs.Tree.{tree_of, operation_of, suffix_of}
 use Rattle.stan_syntax.proofs.Layers.{tree_fields, tree-made, form-Chain, form-Post}
-use Rattle.stan_expr.specs.Parse.{first_of, with_operations, with_suffixes}
+use Rattle.stan_expr_rules.specs.Parse.{first_of, with_operations, with_suffixes}
 
 pub positional_maps : (es : List Expr) → map (λ e. model.Positional (tree_of e)) es ≡ map model.Positional (map tree_of es)
 positional_maps [] = refl

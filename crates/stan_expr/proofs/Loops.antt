@@ -4,14 +4,14 @@ use Rattle.std.proofs.lemmas.Bool.{ne_eqb}
 use Rattle.stan_expr.specs.declared.stop.Stop.{Stop}
 use Rattle.stan_expr.specs.declared.stop.Stop.TheVariants.{Memory, Absent}
 use Rattle.stan_expr.specs.Gives.{Fails}
-use Rattle.stan_base.specs.declared.php.Token.{Token}
+use Rattle.stan_model_grammar.specs.declared.token.Token.{Token}
 use Rattle.std.proofs.lemmas.Option.{slice_get_past}
-use Rattle.stan_base.specs.declared.php.TokenKind.TheVariants as kinds
-use Rattle.stan_base.specs.model.PhpStrata.{kind_at}
-use Rattle.stan_base.specs.model.PhpTrees.{Tree, is_pattern}
-use Rattle.stan_expr.specs.Places.{joins_at, operator_at}
-use Rattle.stan_base.specs.model.PhpGrammar.{braces_behind, opens_brace, closes_brace}
-use Rattle.stan_expr.specs.Parse.{Read, Turn, many, ◌>>=◌, operand, strata, stratum, operated, conditional, below, closing_within}
+use Rattle.stan_model_grammar.specs.declared.token.TokenKind.TheVariants as kinds
+use Rattle.stan_model_grammar.specs.Strata.{kind_at}
+use Rattle.stan_model_grammar.specs.Trees.{Tree, is_pattern}
+use Rattle.stan_expr_rules.specs.Places.{joins_at, operator_at}
+use Rattle.stan_model_grammar.specs.Expressions.{braces_behind, opens_brace, closes_brace}
+use Rattle.stan_expr_rules.specs.Parse.{Read, Turn, many, ◌>>=◌, operand, strata, stratum, operated, conditional, below, closing_within}
 
 unrolled : {A : Type 0} (turn : ℕ → Turn A) (n i : ℕ) (found : List A) (at : ℕ) → i < n
     → many turn (n - i) found at ≡ (turn at >>= elim [ None ↦ Some (found, at) | Some x ↦ many turn (n - (i + 1)) (found ++ x.0 ∷ []) x.1 ])

@@ -1,13 +1,13 @@
 -- Operators stand within the tokens, and are one or two of them.
 use Rattle.std.proofs.Common.{◌≡◌, ℕ, ◌+◌, ◌≤◌, ◌<◌, List, length, Option, Some, None, arith, sym, ap, ◌∙◌}
-use Rattle.stan_base.specs.declared.operators.AssignmentOperator.{AssignmentOperator}
-use Rattle.stan_base.specs.declared.operators.AssignmentOperator.TheVariants as assignments
-use Rattle.stan_base.specs.declared.operators.BinaryOperator.{BinaryOperator}
-use Rattle.stan_base.specs.declared.operators.BinaryOperator.TheVariants as binaries
-use Rattle.stan_base.specs.declared.php.Token.{Token}
-use Rattle.stan_base.specs.model.PhpStrata.{kind_at, binary_at, binary_size, assignment_at, assignment_size, joins}
-use Rattle.stan_base.proofs.PhpInsideLemmas.{kind_inside}
-use Rattle.stan_expr.specs.Places.{operator_at, assigning_at, joins_at}
+use Rattle.stan_model_grammar.specs.declared.operators.AssignmentOperator.{AssignmentOperator}
+use Rattle.stan_model_grammar.specs.declared.operators.AssignmentOperator.TheVariants as assignments
+use Rattle.stan_model_grammar.specs.declared.operators.BinaryOperator.{BinaryOperator}
+use Rattle.stan_model_grammar.specs.declared.operators.BinaryOperator.TheVariants as binaries
+use Rattle.stan_model_grammar.specs.declared.token.Token.{Token}
+use Rattle.stan_model_grammar.specs.Strata.{kind_at, binary_at, binary_size, assignment_at, assignment_size, joins}
+use Rattle.stan_expr_law.proofs.InsideLemmas.{kind_inside}
+use Rattle.stan_expr_rules.specs.Places.{operator_at, assigning_at, joins_at}
 
 some_apart : {A : Type 0} (x : A) → (let s : Option A = None in s ≡ Some x) → ⊥
 some_apart x h = cc

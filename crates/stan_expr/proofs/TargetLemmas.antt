@@ -2,15 +2,15 @@
 use Rattle.std.proofs.Common.{◌≡◌, ℕ, zero, suc, Bool, true, false, List, [], ◌∷◌, ◌++◌, ◌+◌, ◌-◌, ◌<◌, Some, slice_get, length, get_or, take, refl, ap, sym, ◌∙◌, arith}
 use Rattle.std.specs.Prelude.{map, ◌||◌, ◌&&◌, not}
 use Rattle.std.proofs.lemmas.List.{take_more, map_push}
-use Rattle.stan_base.specs.declared.operators.ArrayStyle.{ArrayStyle}
-use Rattle.stan_base.specs.declared.operators.ArrayStyle.TheVariants as styles
-use Rattle.stan_base.specs.declared.operators.AssignmentOperator.{AssignmentOperator}
-use Rattle.stan_base.specs.declared.operators.Leaf.{Leaf}
-use Rattle.stan_base.specs.declared.operators.Leaf.TheVariants as leaves
-use Rattle.stan_base.specs.declared.php.Token.{Token}
-use Rattle.stan_base.specs.model.PhpGrammar.{is_arrow, is_assignable, is_place}
-use Rattle.stan_base.specs.model.PhpTrees.{Tree, node, Single, Array, Post, Item, Step, is_pattern, holds_pattern, is_pattern_item, further_pattern}
-use Rattle.stan_syntax.specs.Tree.{listed, furthers, steps}
+use Rattle.stan_model_grammar.specs.declared.operators.ArrayStyle.{ArrayStyle}
+use Rattle.stan_model_grammar.specs.declared.operators.ArrayStyle.TheVariants as styles
+use Rattle.stan_model_grammar.specs.declared.operators.AssignmentOperator.{AssignmentOperator}
+use Rattle.stan_model_grammar.specs.declared.operators.Leaf.{Leaf}
+use Rattle.stan_model_grammar.specs.declared.operators.Leaf.TheVariants as leaves
+use Rattle.stan_model_grammar.specs.declared.token.Token.{Token}
+use Rattle.stan_model_grammar.specs.Expressions.{is_arrow, is_assignable, is_place}
+use Rattle.stan_model_grammar.specs.Trees.{Tree, node, Single, Array, Post, Item, Step, is_pattern, holds_pattern, is_pattern_item, further_pattern}
+use Rattle.stan_model_grammar.specs.TreeLists.{listed, furthers, steps}
 use Rattle.stan_expr.specs.Targets.{is_pattern_array, is_variable_leaf, ends_in_place}
 
 listed_pattern : (es : List Item) (comma : Bool) → holds_pattern (listed es comma) ≡ further_pattern (furthers es)

@@ -1,10 +1,10 @@
 -- What the parser answers, and laws of the grammar.
 use Rattle.std.specs.Prelude.{◌≡◌, ℕ, ◌+◌, ◌≤◌, ◌<◌, List}
-use Rattle.stan_base.specs.declared.php.Token.{Token}
-use Rattle.stan_base.specs.model.PhpDepth.{depth}
-use Rattle.stan_base.specs.model.PhpGrammar.{Spells, IsEnd}
-use Rattle.stan_base.specs.model.PhpTakes.{IsTreeOf}
-use Rattle.stan_base.specs.model.PhpTrees.{Tree}
+use Rattle.stan_model_grammar.specs.declared.token.Token.{Token}
+use Rattle.stan_model_grammar.specs.Depth.{depth}
+use Rattle.stan_model_grammar.specs.Expressions.{Spells, IsEnd}
+use Rattle.stan_model_grammar.specs.Takes.{IsTreeOf}
+use Rattle.stan_model_grammar.specs.Trees.{Tree}
 use Rattle.stan_syntax.specs.declared.tree.Expr.{Expr}
 use Rattle.stan_syntax.specs.Tree.{tree_of}
 use Rattle.stan_expr.specs.declared.parser.Parsed.{Parsed}

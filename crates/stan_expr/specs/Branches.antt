@@ -1,11 +1,11 @@
 -- The second and the third part of `? :`.
 use Rattle.std.specs.Prelude.{ℕ, Bool, false, List, Some}
-use Rattle.stan_base.specs.declared.php.Token.{Token}
-use Rattle.stan_base.specs.declared.php.TokenKind.TheVariants as kinds
-use Rattle.stan_base.specs.model.PhpStrata.{loosest}
-use Rattle.stan_base.specs.model.PhpTrees.{Tree}
-use Rattle.stan_expr.specs.Parse.{Read, ◌>>=◌}
-use Rattle.stan_expr.specs.Places.{after}
+use Rattle.stan_model_grammar.specs.declared.token.Token.{Token}
+use Rattle.stan_model_grammar.specs.declared.token.TokenKind.TheVariants as kinds
+use Rattle.stan_model_grammar.specs.Strata.{loosest}
+use Rattle.stan_model_grammar.specs.Trees.{Tree}
+use Rattle.stan_expr_rules.specs.Parse.{Read, ◌>>=◌}
+use Rattle.stan_expr_rules.specs.Places.{after}
 
 unfoldable pub branches : List Token → (Bool → ℕ → ℕ → Read Tree) → ℕ → Read (Tree × Tree)
 branches ts below at = do

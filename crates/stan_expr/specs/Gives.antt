@@ -2,12 +2,12 @@
 use Rattle.std.specs.Prelude.{◌≡◌, ℕ, ◌<◌, ◌^◌, Bool, List, Option, Some, None, Result, Ok, Err, length, option_map}
 use Rattle.std.specs.declared.alloc.Global.{Global}
 use denote.Ref.{Bor}
-use Rattle.stan_base.specs.declared.php.Token.{Token}
+use Rattle.stan_model_grammar.specs.declared.token.Token.{Token}
 use Rattle.stan_syntax.specs.declared.tree.Expr.{Expr}
 use Rattle.stan_syntax.specs.Tree.{tree_of}
 use Rattle.stan_expr.specs.declared.stop.Stop.{Stop}
 use Rattle.stan_expr.specs.declared.stop.Stop.TheVariants.{Memory, Absent}
-use Rattle.stan_expr.specs.Parse.{below}
+use Rattle.stan_expr_rules.specs.Parse.{below}
 
 abbrev pub Fails : {Y : Type 0} → Stop → Option Y → Type 0
 Fails Memory read = Unit {0}

@@ -1,12 +1,12 @@
 -- What may be assigned to, over the lists of the program.
 use Rattle.std.specs.Prelude.{Bool, true, false, List, [], ◌∷◌}
-use Rattle.stan_base.specs.declared.operators.ArrayStyle.{ArrayStyle}
-use Rattle.stan_base.specs.declared.operators.ArrayStyle.TheVariants as styles
-use Rattle.stan_base.specs.declared.operators.Leaf.{Leaf}
-use Rattle.stan_base.specs.declared.operators.Leaf.TheVariants as leaves
-use Rattle.stan_base.specs.model.PhpGrammar as grammar
-use Rattle.stan_base.specs.model.PhpTrees.{Item, Step, further_pattern}
-use Rattle.stan_syntax.specs.Tree.{furthers, steps}
+use Rattle.stan_model_grammar.specs.declared.operators.ArrayStyle.{ArrayStyle}
+use Rattle.stan_model_grammar.specs.declared.operators.ArrayStyle.TheVariants as styles
+use Rattle.stan_model_grammar.specs.declared.operators.Leaf.{Leaf}
+use Rattle.stan_model_grammar.specs.declared.operators.Leaf.TheVariants as leaves
+use Rattle.stan_model_grammar.specs.Expressions as grammar
+use Rattle.stan_model_grammar.specs.Trees.{Item, Step, further_pattern}
+use Rattle.stan_model_grammar.specs.TreeLists.{furthers, steps}
 
 abbrev pub is_pattern_array : ArrayStyle → List Item → Bool
 is_pattern_array styles.List es = true

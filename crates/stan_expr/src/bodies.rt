@@ -1,14 +1,14 @@
 //! The body of a closure, which is found by its braces and not read.
 
 ghost use Rattle.std.specs.Prelude.{◌≡◌, ◌<◌, ◌^◌, ℕ, Some, length};
-ghost use Rattle.stan_base.specs.model.PhpGrammar as grammar;
+ghost use Rattle.stan_model_grammar.specs.Expressions as grammar;
 ghost use Rattle.stan_expr.specs.Gives.{Gives, at};
-ghost use Rattle.stan_expr.specs.Parse as parse;
+ghost use Rattle.stan_expr_rules.specs.Parse as parse;
 ghost use Rattle.stan_syntax.specs.Tree.{body_of};
 
 use crate::places::{after, token_at};
 use crate::stop::Stop;
-use stan_base::php::{Token, TokenKind};
+use stan_model_grammar::token::{Token, TokenKind};
 use stan_syntax::Body;
 
 fn opens_brace(kind: TokenKind) -> bool
@@ -44,7 +44,7 @@ fn braces_behind(count: usize, token: Token) -> usize
 }
 
 /// The place of the brace that closes the one before a place.
-#[tactic(auto, unfolding(crate::specs::Parse::closing))]
+#[tactic(auto, unfolding(stan_expr_rules::specs::Parse::closing))]
 fn closing(tokens: &[Token], from: usize) -> Option<usize>
     requires { length tokens.now < 2 ^ 32 }
     ensures value { result ≡ parse.closing tokens.now from }
@@ -64,7 +64,7 @@ fn closing(tokens: &[Token], from: usize) -> Option<usize>
 }
 
 /// A body, from its `{` to its `}`.
-#[tactic(auto, using(stan_syntax::proofs::Layers::layers), unfolding(crate::specs::Parse::body))]
+#[tactic(auto, using(stan_syntax::proofs::Layers::layers), unfolding(stan_expr_rules::specs::Parse::body))]
 pub fn body(tokens: &[Token], place: usize) -> Result<(Body, usize), Stop>
     requires { length tokens.now < 2 ^ 32 }
     ensures { Gives (at body_of) result (parse.body tokens.now place) }

@@ -2,7 +2,7 @@
 
 ghost use Rattle.std.specs.Prelude.{◌≡◌, ◌<◌, Some, length, slice_get};
 ghost use Rattle.stan_expr.specs.Gives.{Gives, Nests, at};
-ghost use Rattle.stan_expr.specs.Parse as parse;
+ghost use Rattle.stan_expr_rules.specs.Parse as parse;
 ghost use Rattle.stan_syntax.specs.Tree.{class_of, form_of};
 
 use crate::grammar::Grammar;
@@ -10,7 +10,7 @@ use crate::places::{after_next, token_at};
 use crate::stop::Stop;
 use crate::strata::names_class;
 use sqlite_items::Boxed;
-use stan_base::php::{Token, TokenKind};
+use stan_model_grammar::token::{Token, TokenKind};
 use stan_syntax::{ClassReference, Expr, Form};
 use std::alloc::Global;
 
@@ -19,7 +19,7 @@ impl<'t, F: Fn(Global, &[Token], u32, bool, u8, usize) -> Result<(Expr, usize), 
     F,
 > {
     /// A name before `::`, with a variable behind it or not.
-    #[tactic(auto, using(stan_syntax::proofs::Layers::layers), unfolding(crate::specs::Parse::behind_class, crate::specs::Parse::scoped_class))]
+    #[tactic(auto, using(stan_syntax::proofs::Layers::layers), unfolding(stan_expr_rules::specs::Parse::behind_class, stan_expr_rules::specs::Parse::scoped_class))]
     fn behind_class(&self, name: Token, place: usize) -> Result<(ClassReference, usize), Stop>
         requires nests { Nests self.now.depth (F.pre self.now.read) (F.post self.now.read) }
         requires there { place < length self.now.tokens.now }
@@ -35,7 +35,7 @@ impl<'t, F: Fn(Global, &[Token], u32, bool, u8, usize) -> Result<(Expr, usize), 
         Ok((ClassReference::Scoped(name, variable, suffixes), to))
     }
 
-    #[tactic(auto, using(stan_syntax::proofs::Layers::layers), unfolding(crate::specs::Parse::named_class, crate::specs::Places::after, crate::specs::Places::same_kind))]
+    #[tactic(auto, using(stan_syntax::proofs::Layers::layers), unfolding(stan_expr_rules::specs::Parse::named_class, stan_expr_rules::specs::Places::after, stan_expr_rules::specs::Places::same_kind))]
     fn named_class(&self, name: Token, place: usize) -> Result<(ClassReference, usize), Stop>
         requires { Nests self.now.depth (F.pre self.now.read) (F.post self.now.read) }
         ensures { Gives (at class_of) result (parse.named_class self.now.tokens.now (parse.below self.now.tokens.now self.now.depth) name place) }
@@ -46,7 +46,7 @@ impl<'t, F: Fn(Global, &[Token], u32, bool, u8, usize) -> Result<(Expr, usize), 
         }
     }
 
-    #[tactic(auto, using(stan_syntax::proofs::Layers::layers), unfolding(crate::specs::Parse::variable_class, crate::specs::Parse::computed_class, crate::specs::Places::same_kind))]
+    #[tactic(auto, using(stan_syntax::proofs::Layers::layers), unfolding(stan_expr_rules::specs::Parse::variable_class, stan_expr_rules::specs::Parse::computed_class, stan_expr_rules::specs::Places::same_kind))]
     fn class_with(&self, first: Token, place: usize) -> Result<(ClassReference, usize), Stop>
         requires nests { Nests self.now.depth (F.pre self.now.read) (F.post self.now.read) }
         requires there { slice_get self.now.tokens.now place ≡ Some first }
@@ -67,7 +67,7 @@ impl<'t, F: Fn(Global, &[Token], u32, bool, u8, usize) -> Result<(Expr, usize), 
         }
     }
 
-    #[tactic(auto, using(stan_syntax::proofs::Layers::layers), unfolding(crate::specs::Parse::class_reference))]
+    #[tactic(auto, using(stan_syntax::proofs::Layers::layers), unfolding(stan_expr_rules::specs::Parse::class_reference))]
     fn class_reference(&self, place: usize) -> Result<(ClassReference, usize), Stop>
         requires { Nests self.now.depth (F.pre self.now.read) (F.post self.now.read) }
         ensures { Gives (at class_of) result (parse.class_reference self.now.tokens.now (parse.below self.now.tokens.now self.now.depth) place) }
@@ -79,7 +79,7 @@ impl<'t, F: Fn(Global, &[Token], u32, bool, u8, usize) -> Result<(Expr, usize), 
     }
 
     /// Behind `new`.
-    #[tactic(auto, using(stan_syntax::proofs::Layers::layers), unfolding(crate::specs::Parse::new))]
+    #[tactic(auto, using(stan_syntax::proofs::Layers::layers), unfolding(stan_expr_rules::specs::Parse::new))]
     pub fn new(&self, place: usize) -> Result<(Form, usize), Stop>
         requires { Nests self.now.depth (F.pre self.now.read) (F.post self.now.read) }
         ensures { Gives (at form_of) result (parse.new self.now.tokens.now (parse.below self.now.tokens.now self.now.depth) place) }

@@ -1,11 +1,12 @@
 //! What stands alone.
 
 ghost use Rattle.std.specs.Prelude.{◌≡◌, ◌<◌, length, map, option_map};
-ghost use Rattle.stan_base.specs.model.PhpStrata.{leaf_of};
-ghost use Rattle.stan_base.specs.model.PhpTrees.{Captured};
+ghost use Rattle.stan_model_grammar.specs.Strata.{leaf_of};
+ghost use Rattle.stan_model_grammar.specs.Trees.{Captured};
 ghost use Rattle.stan_expr.specs.Gives.{Gives, Nests, at, turn};
-ghost use Rattle.stan_expr.specs.Parse as parse;
-ghost use Rattle.stan_syntax.specs.Tree.{form_of, part_of, parameter_of, listed};
+ghost use Rattle.stan_expr_rules.specs.Parse as parse;
+ghost use Rattle.stan_model_grammar.specs.TreeLists.{listed};
+ghost use Rattle.stan_syntax.specs.Tree.{form_of, part_of, parameter_of};
 
 use crate::bodies::body;
 use crate::grammar::Grammar;
@@ -14,8 +15,8 @@ use crate::stop::Stop;
 use crate::strata::{is_part, leaf_of};
 use crate::types::may_return;
 use sqlite_items::{Boxed, Items};
-use stan_base::operators::{ArrayStyle, Leaf};
-use stan_base::php::{Token, TokenKind};
+use stan_model_grammar::operators::{ArrayStyle, Leaf};
+use stan_model_grammar::token::{Token, TokenKind};
 use stan_syntax::{Expr, Form, Parameter, TextPart};
 use std::alloc::Global;
 
@@ -23,7 +24,7 @@ impl<'t, F: Fn(Global, &[Token], u32, bool, u8, usize) -> Result<(Expr, usize), 
     't,
     F,
 > {
-    #[tactic(auto, using(stan_syntax::proofs::Layers::layers), unfolding(crate::specs::Parse::brackets))]
+    #[tactic(auto, using(stan_syntax::proofs::Layers::layers), unfolding(stan_expr_rules::specs::Parse::brackets))]
     fn brackets(&self, place: usize) -> Result<(Form, usize), Stop>
         requires { Nests self.now.depth (F.pre self.now.read) (F.post self.now.read) }
         ensures { Gives (at form_of) result (parse.brackets self.now.tokens.now (parse.below self.now.tokens.now self.now.depth) place) }
@@ -36,7 +37,7 @@ impl<'t, F: Fn(Global, &[Token], u32, bool, u8, usize) -> Result<(Expr, usize), 
         Ok((Form::Brackets(Boxed::new(self.alloc, e)?), to))
     }
 
-    #[tactic(auto, using(stan_syntax::proofs::Layers::layers), unfolding(crate::specs::Parse::short_array))]
+    #[tactic(auto, using(stan_syntax::proofs::Layers::layers), unfolding(stan_expr_rules::specs::Parse::short_array))]
     fn short_array(&self, place: usize) -> Result<(Form, usize), Stop>
         requires { Nests self.now.depth (F.pre self.now.read) (F.post self.now.read) }
         ensures { Gives (at form_of) result (parse.short_array self.now.tokens.now (parse.below self.now.tokens.now self.now.depth) place) }
@@ -55,7 +56,7 @@ impl<'t, F: Fn(Global, &[Token], u32, bool, u8, usize) -> Result<(Expr, usize), 
     }
 
     /// Behind the word.
-    #[tactic(auto, using(stan_syntax::proofs::Layers::layers), unfolding(crate::specs::Parse::long_array))]
+    #[tactic(auto, using(stan_syntax::proofs::Layers::layers), unfolding(stan_expr_rules::specs::Parse::long_array))]
     fn long_array(&self, style: ArrayStyle, place: usize) -> Result<(Form, usize), Stop>
         requires { Nests self.now.depth (F.pre self.now.read) (F.post self.now.read) }
         ensures { Gives (at form_of) result (parse.long_array self.now.tokens.now (parse.below self.now.tokens.now self.now.depth) style place) }
@@ -73,7 +74,7 @@ impl<'t, F: Fn(Global, &[Token], u32, bool, u8, usize) -> Result<(Expr, usize), 
         Ok((array, to))
     }
 
-    #[tactic(auto, using(stan_syntax::proofs::Layers::layers, crate::proofs::ListLemmas::positional_maps), unfolding(crate::specs::Parse::is_set))]
+    #[tactic(auto, using(stan_syntax::proofs::Layers::layers, crate::proofs::ListLemmas::positional_maps), unfolding(stan_expr_rules::specs::Parse::is_set))]
     fn is_set(&self, place: usize) -> Result<(Form, usize), Stop>
         requires { Nests self.now.depth (F.pre self.now.read) (F.post self.now.read) }
         ensures { Gives (at form_of) result (parse.is_set self.now.tokens.now (parse.below self.now.tokens.now self.now.depth) place) }
@@ -82,7 +83,7 @@ impl<'t, F: Fn(Global, &[Token], u32, bool, u8, usize) -> Result<(Expr, usize), 
         Ok((Form::IsSet { operands, comma }, to))
     }
 
-    #[tactic(auto, using(stan_syntax::proofs::Layers::layers), unfolding(crate::specs::Parse::empty))]
+    #[tactic(auto, using(stan_syntax::proofs::Layers::layers), unfolding(stan_expr_rules::specs::Parse::empty))]
     fn empty(&self, place: usize) -> Result<(Form, usize), Stop>
         requires { Nests self.now.depth (F.pre self.now.read) (F.post self.now.read) }
         ensures { Gives (at form_of) result (parse.empty self.now.tokens.now (parse.below self.now.tokens.now self.now.depth) place) }
@@ -95,7 +96,7 @@ impl<'t, F: Fn(Global, &[Token], u32, bool, u8, usize) -> Result<(Expr, usize), 
         Ok((Form::Empty(Boxed::new(self.alloc, e)?), to))
     }
 
-    #[tactic(auto, using(stan_syntax::proofs::Layers::layers), unfolding(crate::specs::Parse::exit))]
+    #[tactic(auto, using(stan_syntax::proofs::Layers::layers), unfolding(stan_expr_rules::specs::Parse::exit))]
     fn exit(&self, place: usize) -> Result<(Form, usize), Stop>
         requires { Nests self.now.depth (F.pre self.now.read) (F.post self.now.read) }
         ensures { Gives (at form_of) result (parse.exit self.now.tokens.now (parse.below self.now.tokens.now self.now.depth) place) }
@@ -104,7 +105,7 @@ impl<'t, F: Fn(Global, &[Token], u32, bool, u8, usize) -> Result<(Expr, usize), 
         Ok((Form::Exit(arguments), to))
     }
 
-    #[tactic(auto, using(stan_syntax::proofs::Layers::layers), unfolding(crate::specs::Parse::match_form))]
+    #[tactic(auto, using(stan_syntax::proofs::Layers::layers), unfolding(stan_expr_rules::specs::Parse::match_form))]
     fn match_form(&self, place: usize) -> Result<(Form, usize), Stop>
         requires { Nests self.now.depth (F.pre self.now.read) (F.post self.now.read) }
         ensures { Gives (at form_of) result (parse.match_form self.now.tokens.now (parse.below self.now.tokens.now self.now.depth) place) }
@@ -123,7 +124,7 @@ impl<'t, F: Fn(Global, &[Token], u32, bool, u8, usize) -> Result<(Expr, usize), 
         Ok((form, to))
     }
 
-    #[tactic(auto, using(stan_syntax::proofs::Layers::layers), unfolding(crate::specs::Parse::may_capture))]
+    #[tactic(auto, using(stan_syntax::proofs::Layers::layers), unfolding(stan_expr_rules::specs::Parse::may_capture))]
     fn captures(&self, place: usize) -> Result<((Items<Token>, bool), usize), Stop>
         requires { Nests self.now.depth (F.pre self.now.read) (F.post self.now.read) }
         ensures { Gives (at (λ x. listed (map Captured x.0) x.1)) result (parse.may_capture self.now.tokens.now (parse.below self.now.tokens.now self.now.depth) place) }
@@ -134,7 +135,7 @@ impl<'t, F: Fn(Global, &[Token], u32, bool, u8, usize) -> Result<(Expr, usize), 
         }
     }
 
-    #[tactic(auto, using(stan_syntax::proofs::Layers::layers), unfolding(crate::specs::Parse::parameters))]
+    #[tactic(auto, using(stan_syntax::proofs::Layers::layers), unfolding(stan_expr_rules::specs::Parse::parameters))]
     fn parameters(&self, place: usize) -> Result<((Items<Parameter>, bool), usize), Stop>
         requires { Nests self.now.depth (F.pre self.now.read) (F.post self.now.read) }
         ensures { Gives (at (λ x. listed (map parameter_of x.0) x.1)) result (parse.parameters self.now.tokens.now (parse.below self.now.tokens.now self.now.depth) place) }
@@ -147,7 +148,7 @@ impl<'t, F: Fn(Global, &[Token], u32, bool, u8, usize) -> Result<(Expr, usize), 
     }
 
     /// Behind `function`.
-    #[tactic(auto, using(stan_syntax::proofs::Layers::layers), unfolding(crate::specs::Parse::closure))]
+    #[tactic(auto, using(stan_syntax::proofs::Layers::layers), unfolding(stan_expr_rules::specs::Parse::closure))]
     fn closure(&self, is_static: bool, place: usize) -> Result<(Form, usize), Stop>
         requires { Nests self.now.depth (F.pre self.now.read) (F.post self.now.read) }
         ensures { Gives (at form_of) result (parse.closure self.now.tokens.now (parse.below self.now.tokens.now self.now.depth) is_static place) }
@@ -171,7 +172,7 @@ impl<'t, F: Fn(Global, &[Token], u32, bool, u8, usize) -> Result<(Expr, usize), 
     }
 
     /// Behind `fn`.
-    #[tactic(auto, using(stan_syntax::proofs::Layers::layers), unfolding(crate::specs::Parse::arrow))]
+    #[tactic(auto, using(stan_syntax::proofs::Layers::layers), unfolding(stan_expr_rules::specs::Parse::arrow))]
     fn arrow(&self, is_static: bool, place: usize) -> Result<(Form, usize), Stop>
         requires { Nests self.now.depth (F.pre self.now.read) (F.post self.now.read) }
         ensures { Gives (at form_of) result (parse.arrow self.now.tokens.now (parse.below self.now.tokens.now self.now.depth) is_static place) }
@@ -192,7 +193,7 @@ impl<'t, F: Fn(Global, &[Token], u32, bool, u8, usize) -> Result<(Expr, usize), 
         Ok((arrow, to))
     }
 
-    #[tactic(auto, using(stan_syntax::proofs::Layers::layers), unfolding(crate::specs::Parse::part_at, crate::specs::Parse::part_by, crate::specs::Parse::inserted, crate::specs::Places::same_kind))]
+    #[tactic(auto, using(stan_syntax::proofs::Layers::layers), unfolding(stan_expr_rules::specs::Parse::part_at, stan_expr_rules::specs::Parse::part_by, stan_expr_rules::specs::Parse::inserted, stan_expr_rules::specs::Places::same_kind))]
     fn part(&self, place: usize) -> Result<Option<(TextPart, usize)>, Stop>
         requires { Nests self.now.depth (F.pre self.now.read) (F.post self.now.read) }
         ensures { Gives (turn part_of) result (parse.part_at self.now.tokens.now (parse.below self.now.tokens.now self.now.depth) place) }
@@ -210,7 +211,7 @@ impl<'t, F: Fn(Global, &[Token], u32, bool, u8, usize) -> Result<(Expr, usize), 
         Ok(None)
     }
 
-    #[tactic(auto, using(stan_syntax::proofs::Layers::layers), unfolding(crate::specs::Parse::parts, crate::specs::Parse::all))]
+    #[tactic(auto, using(stan_syntax::proofs::Layers::layers), unfolding(stan_expr_rules::specs::Parse::parts, stan_expr_rules::specs::Parse::all))]
     fn parts(&self, from: usize) -> Result<(Items<TextPart>, usize), Stop>
         requires { Nests self.now.depth (F.pre self.now.read) (F.post self.now.read) }
         ensures { Gives (at (map part_of)) result (parse.parts self.now.tokens.now (parse.below self.now.tokens.now self.now.depth) from) }
@@ -230,7 +231,7 @@ impl<'t, F: Fn(Global, &[Token], u32, bool, u8, usize) -> Result<(Expr, usize), 
     }
 
     /// Behind the quote.
-    #[tactic(auto, using(stan_syntax::proofs::Layers::layers), unfolding(crate::specs::Parse::text))]
+    #[tactic(auto, using(stan_syntax::proofs::Layers::layers), unfolding(stan_expr_rules::specs::Parse::text))]
     fn text(&self, place: usize) -> Result<(Form, usize), Stop>
         requires { Nests self.now.depth (F.pre self.now.read) (F.post self.now.read) }
         ensures { Gives (at form_of) result (parse.text self.now.tokens.now (parse.below self.now.tokens.now self.now.depth) place) }
@@ -241,7 +242,7 @@ impl<'t, F: Fn(Global, &[Token], u32, bool, u8, usize) -> Result<(Expr, usize), 
     }
 
     /// Behind `static`.
-    #[tactic(auto, using(stan_syntax::proofs::Layers::layers), unfolding(crate::specs::Parse::static_word))]
+    #[tactic(auto, using(stan_syntax::proofs::Layers::layers), unfolding(stan_expr_rules::specs::Parse::static_word))]
     fn static_word(&self, place: usize) -> Result<(Form, usize), Stop>
         requires { Nests self.now.depth (F.pre self.now.read) (F.post self.now.read) }
         ensures { Gives (at form_of) result (parse.static_word self.now.tokens.now (parse.below self.now.tokens.now self.now.depth) place) }

@@ -1,16 +1,16 @@
 //! The rules of the grammar, over a function that reads what stands a level deeper, so that each is proved by itself.
 
 ghost use Rattle.std.specs.Prelude.{◌≡◌, ◌<◌, ◌^◌, false, length};
-ghost use Rattle.stan_base.specs.model.PhpStrata.{loosest};
+ghost use Rattle.stan_model_grammar.specs.Strata.{loosest};
 ghost use Rattle.stan_expr.specs.Gives.{Gives, Nests, at};
-ghost use Rattle.stan_expr.specs.Parse as parse;
-ghost use Rattle.stan_expr.specs.Places as spec;
+ghost use Rattle.stan_expr_rules.specs.Parse as parse;
+ghost use Rattle.stan_expr_rules.specs.Places as spec;
 ghost use Rattle.stan_syntax.specs.Tree.{tree_of};
 
 use crate::places::after;
 use crate::stop::Stop;
 use crate::strata::LOOSEST;
-use stan_base::php::{Token, TokenKind};
+use stan_model_grammar::token::{Token, TokenKind};
 use stan_syntax::Expr;
 use std::alloc::Global;
 
@@ -58,7 +58,7 @@ impl<'t, F: Fn(Global, &[Token], u32, bool, u8, usize) -> Result<(Expr, usize), 
     }
 
     /// An expression between two tokens.
-    #[tactic(auto, unfolding(crate::specs::Parse::enclosed))]
+    #[tactic(auto, unfolding(stan_expr_rules::specs::Parse::enclosed))]
     pub fn enclosed(
         &self,
         opening: TokenKind,

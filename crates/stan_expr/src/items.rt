@@ -1,10 +1,11 @@
 //! What stands in lists: arguments, elements, parameters, captured variables, arms and conditions.
 
 ghost use Rattle.std.specs.Prelude.{◌≡◌, map, option_map};
-ghost use Rattle.stan_base.specs.model.PhpTrees.{Captured, Positional};
+ghost use Rattle.stan_model_grammar.specs.Trees.{Captured, Positional};
 ghost use Rattle.stan_expr.specs.Gives.{Gives, Nests, at};
-ghost use Rattle.stan_expr.specs.Parse as parse;
-ghost use Rattle.stan_syntax.specs.Tree.{tree_of, argument_of, element_of, parameter_of, arm_of, default_of, may_type, listed};
+ghost use Rattle.stan_expr_rules.specs.Parse as parse;
+ghost use Rattle.stan_model_grammar.specs.TreeLists.{default_of, listed};
+ghost use Rattle.stan_syntax.specs.Tree.{tree_of, argument_of, element_of, parameter_of, arm_of, may_type};
 
 use crate::grammar::Grammar;
 use crate::lists::Listed;
@@ -14,8 +15,8 @@ use crate::strata::{LOOSEST, names_argument};
 use crate::targets::is_pattern;
 use crate::types::{may_type, visibility_at};
 use sqlite_items::{Boxed, Items};
-use stan_base::operators::Visibility;
-use stan_base::php::{Token, TokenKind};
+use stan_model_grammar::operators::Visibility;
+use stan_model_grammar::token::{Token, TokenKind};
 use stan_syntax::{Argument, Arm, Element, Expr, Parameter, TypeTree};
 use std::alloc::Global;
 
@@ -24,7 +25,7 @@ impl<'t, F: Fn(Global, &[Token], u32, bool, u8, usize) -> Result<(Expr, usize), 
     F,
 > {
     /// At a name with `:` behind it, with the value from a place on.
-    #[tactic(auto, using(stan_syntax::proofs::Layers::layers), unfolding(crate::specs::Parse::named, crate::specs::Parse::named_with))]
+    #[tactic(auto, using(stan_syntax::proofs::Layers::layers), unfolding(stan_expr_rules::specs::Parse::named, stan_expr_rules::specs::Parse::named_with))]
     fn named_argument(&self, place: usize, from: usize) -> Result<(Argument, usize), Stop>
         requires { Nests self.now.depth (F.pre self.now.read) (F.post self.now.read) }
         ensures { Gives (at argument_of) result (parse.named self.now.tokens.now (parse.below self.now.tokens.now self.now.depth) place from) }
@@ -40,7 +41,7 @@ impl<'t, F: Fn(Global, &[Token], u32, bool, u8, usize) -> Result<(Expr, usize), 
         }
     }
 
-    #[tactic(auto, using(stan_syntax::proofs::Layers::layers), unfolding(crate::specs::Parse::unspread, crate::specs::Parse::positional))]
+    #[tactic(auto, using(stan_syntax::proofs::Layers::layers), unfolding(stan_expr_rules::specs::Parse::unspread, stan_expr_rules::specs::Parse::positional))]
     fn unspread_argument(&self, place: usize) -> Result<(Argument, usize), Stop>
         requires { Nests self.now.depth (F.pre self.now.read) (F.post self.now.read) }
         ensures { Gives (at argument_of) result (parse.unspread self.now.tokens.now (parse.below self.now.tokens.now self.now.depth) place) }
@@ -52,7 +53,7 @@ impl<'t, F: Fn(Global, &[Token], u32, bool, u8, usize) -> Result<(Expr, usize), 
         Ok((Argument::Positional(e), to))
     }
 
-    #[tactic(auto, using(stan_syntax::proofs::Layers::layers), unfolding(crate::specs::Parse::argument_at, crate::specs::Parse::spread))]
+    #[tactic(auto, using(stan_syntax::proofs::Layers::layers), unfolding(stan_expr_rules::specs::Parse::argument_at, stan_expr_rules::specs::Parse::spread))]
     fn argument(&self, place: usize) -> Result<(Argument, usize), Stop>
         requires { Nests self.now.depth (F.pre self.now.read) (F.post self.now.read) }
         ensures { Gives (at argument_of) result (parse.argument_at self.now.tokens.now (parse.below self.now.tokens.now self.now.depth) place) }
@@ -67,7 +68,7 @@ impl<'t, F: Fn(Global, &[Token], u32, bool, u8, usize) -> Result<(Expr, usize), 
     }
 
     /// Behind the `=>` of a key.
-    #[tactic(auto, using(stan_syntax::proofs::Layers::layers), unfolding(crate::specs::Parse::keyed, crate::specs::Parse::keyed_with))]
+    #[tactic(auto, using(stan_syntax::proofs::Layers::layers), unfolding(stan_expr_rules::specs::Parse::keyed, stan_expr_rules::specs::Parse::keyed_with))]
     fn keyed(&self, key: Expr, place: usize) -> Result<(Element, usize), Stop>
         requires { Nests self.now.depth (F.pre self.now.read) (F.post self.now.read) }
         ensures { Gives (at element_of) result (parse.keyed self.now.tokens.now (parse.below self.now.tokens.now self.now.depth) (tree_of key) place) }
@@ -86,7 +87,7 @@ impl<'t, F: Fn(Global, &[Token], u32, bool, u8, usize) -> Result<(Expr, usize), 
     }
 
     /// A value, or a key with one.
-    #[tactic(auto, using(stan_syntax::proofs::Layers::layers), unfolding(crate::specs::Parse::value))]
+    #[tactic(auto, using(stan_syntax::proofs::Layers::layers), unfolding(stan_expr_rules::specs::Parse::value))]
     fn value(&self, place: usize) -> Result<(Element, usize), Stop>
         requires { Nests self.now.depth (F.pre self.now.read) (F.post self.now.read) }
         ensures { Gives (at element_of) result (parse.value self.now.tokens.now (parse.below self.now.tokens.now self.now.depth) place) }
@@ -104,7 +105,7 @@ impl<'t, F: Fn(Global, &[Token], u32, bool, u8, usize) -> Result<(Expr, usize), 
         }
     }
 
-    #[tactic(auto, using(stan_syntax::proofs::Layers::layers), unfolding(crate::specs::Parse::referenced))]
+    #[tactic(auto, using(stan_syntax::proofs::Layers::layers), unfolding(stan_expr_rules::specs::Parse::referenced))]
     fn referenced(&self, place: usize) -> Result<(Element, usize), Stop>
         requires { Nests self.now.depth (F.pre self.now.read) (F.post self.now.read) }
         ensures { Gives (at element_of) result (parse.referenced self.now.tokens.now (parse.below self.now.tokens.now self.now.depth) place) }
@@ -117,7 +118,7 @@ impl<'t, F: Fn(Global, &[Token], u32, bool, u8, usize) -> Result<(Expr, usize), 
         Ok((element, to))
     }
 
-    #[tactic(auto, using(stan_syntax::proofs::Layers::layers), unfolding(crate::specs::Parse::unspread_element))]
+    #[tactic(auto, using(stan_syntax::proofs::Layers::layers), unfolding(stan_expr_rules::specs::Parse::unspread_element))]
     fn unspread_element(&self, place: usize) -> Result<(Element, usize), Stop>
         requires { Nests self.now.depth (F.pre self.now.read) (F.post self.now.read) }
         ensures { Gives (at element_of) result (parse.unspread_element self.now.tokens.now (parse.below self.now.tokens.now self.now.depth) place) }
@@ -128,7 +129,7 @@ impl<'t, F: Fn(Global, &[Token], u32, bool, u8, usize) -> Result<(Expr, usize), 
         }
     }
 
-    #[tactic(auto, using(stan_syntax::proofs::Layers::layers), unfolding(crate::specs::Parse::element_at, crate::specs::Parse::spread))]
+    #[tactic(auto, using(stan_syntax::proofs::Layers::layers), unfolding(stan_expr_rules::specs::Parse::element_at, stan_expr_rules::specs::Parse::spread))]
     fn element(&self, place: usize) -> Result<(Element, usize), Stop>
         requires { Nests self.now.depth (F.pre self.now.read) (F.post self.now.read) }
         ensures { Gives (at element_of) result (parse.element_at self.now.tokens.now (parse.below self.now.tokens.now self.now.depth) place) }
@@ -142,7 +143,7 @@ impl<'t, F: Fn(Global, &[Token], u32, bool, u8, usize) -> Result<(Expr, usize), 
         }
     }
 
-    #[tactic(auto, using(stan_syntax::proofs::Layers::layers), unfolding(crate::specs::Parse::may_default, crate::specs::Parse::some_default))]
+    #[tactic(auto, using(stan_syntax::proofs::Layers::layers), unfolding(stan_expr_rules::specs::Parse::may_default, stan_expr_rules::specs::Parse::some_default))]
     fn may_default(&self, place: usize) -> Result<(Option<Boxed<Expr>>, usize), Stop>
         requires { Nests self.now.depth (F.pre self.now.read) (F.post self.now.read) }
         ensures { Gives (at (λ x. default_of (option_map tree_of x))) result (parse.may_default self.now.tokens.now (parse.below self.now.tokens.now self.now.depth) place) }
@@ -155,7 +156,7 @@ impl<'t, F: Fn(Global, &[Token], u32, bool, u8, usize) -> Result<(Expr, usize), 
     }
 
     /// Behind the type.
-    #[tactic(auto, using(stan_syntax::proofs::Layers::layers), unfolding(crate::specs::Parse::parameter_with))]
+    #[tactic(auto, using(stan_syntax::proofs::Layers::layers), unfolding(stan_expr_rules::specs::Parse::parameter_with))]
     fn parameter_with(
         &self,
         visibility: Option<Visibility>,
@@ -183,7 +184,7 @@ impl<'t, F: Fn(Global, &[Token], u32, bool, u8, usize) -> Result<(Expr, usize), 
         Ok((parameter, to))
     }
 
-    #[tactic(auto, using(stan_syntax::proofs::Layers::layers), unfolding(crate::specs::Parse::parameter_at))]
+    #[tactic(auto, using(stan_syntax::proofs::Layers::layers), unfolding(stan_expr_rules::specs::Parse::parameter_at))]
     fn parameter(&self, place: usize) -> Result<(Parameter, usize), Stop>
         requires { Nests self.now.depth (F.pre self.now.read) (F.post self.now.read) }
         ensures { Gives (at parameter_of) result (parse.parameter_at self.now.tokens.now (parse.below self.now.tokens.now self.now.depth) place) }
@@ -193,7 +194,7 @@ impl<'t, F: Fn(Global, &[Token], u32, bool, u8, usize) -> Result<(Expr, usize), 
         self.parameter_with(visibility, declared, to)
     }
 
-    #[tactic(auto, using(stan_syntax::proofs::Layers::layers), unfolding(crate::specs::Parse::captured_at))]
+    #[tactic(auto, using(stan_syntax::proofs::Layers::layers), unfolding(stan_expr_rules::specs::Parse::captured_at))]
     fn captured(&self, place: usize) -> Result<(Token, usize), Stop>
         ensures { Gives (at Captured) result (parse.captured_at self.now.tokens.now (parse.below self.now.tokens.now self.now.depth) place) }
     {
@@ -205,7 +206,7 @@ impl<'t, F: Fn(Global, &[Token], u32, bool, u8, usize) -> Result<(Expr, usize), 
     }
 
     /// Behind `default`.
-    #[tactic(auto, using(stan_syntax::proofs::Layers::layers), unfolding(crate::specs::Parse::default_arm))]
+    #[tactic(auto, using(stan_syntax::proofs::Layers::layers), unfolding(stan_expr_rules::specs::Parse::default_arm))]
     fn default_arm(&self, place: usize) -> Result<(Arm, usize), Stop>
         requires { Nests self.now.depth (F.pre self.now.read) (F.post self.now.read) }
         ensures { Gives (at arm_of) result (parse.default_arm self.now.tokens.now (parse.below self.now.tokens.now self.now.depth) place) }
@@ -216,7 +217,7 @@ impl<'t, F: Fn(Global, &[Token], u32, bool, u8, usize) -> Result<(Expr, usize), 
         Ok((Arm::Default { comma, value }, to))
     }
 
-    #[tactic(auto, using(stan_syntax::proofs::Layers::layers, crate::proofs::ListLemmas::positional_maps), unfolding(crate::specs::Parse::conditions_arm))]
+    #[tactic(auto, using(stan_syntax::proofs::Layers::layers, crate::proofs::ListLemmas::positional_maps), unfolding(stan_expr_rules::specs::Parse::conditions_arm))]
     fn conditions_arm(&self, place: usize) -> Result<(Arm, usize), Stop>
         requires { Nests self.now.depth (F.pre self.now.read) (F.post self.now.read) }
         ensures { Gives (at arm_of) result (parse.conditions_arm self.now.tokens.now (parse.below self.now.tokens.now self.now.depth) place) }
@@ -232,7 +233,7 @@ impl<'t, F: Fn(Global, &[Token], u32, bool, u8, usize) -> Result<(Expr, usize), 
         Ok((arm, to))
     }
 
-    #[tactic(auto, using(stan_syntax::proofs::Layers::layers), unfolding(crate::specs::Parse::arm_at))]
+    #[tactic(auto, using(stan_syntax::proofs::Layers::layers), unfolding(stan_expr_rules::specs::Parse::arm_at))]
     fn arm(&self, place: usize) -> Result<(Arm, usize), Stop>
         requires { Nests self.now.depth (F.pre self.now.read) (F.post self.now.read) }
         ensures { Gives (at arm_of) result (parse.arm_at self.now.tokens.now (parse.below self.now.tokens.now self.now.depth) place) }
@@ -314,7 +315,7 @@ impl Listed for Expr {
 
     ghost rule = { λ ts below place. parse.positional ts below place };
 
-    #[tactic(auto, unfolding(crate::specs::Parse::positional))]
+    #[tactic(auto, unfolding(stan_expr_rules::specs::Parse::positional))]
     fn read<F: Fn(Global, &[Token], u32, bool, u8, usize) -> Result<(Expr, usize), Stop>>(
         grammar: &Grammar<'_, F>,
         place: usize,

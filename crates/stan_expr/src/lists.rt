@@ -1,19 +1,19 @@
 //! Lists with `,` between their items, and perhaps one behind the last.
 
 ghost use Rattle.std.specs.Prelude.{◌≡◌, ℕ, List, Bool, map, true, false};
-ghost use Rattle.stan_base.specs.declared.php.Token.{Token};
-ghost use Rattle.stan_base.specs.declared.php.TokenKind.TheVariants as kinds;
-ghost use Rattle.stan_base.specs.model.PhpTrees.{Tree, Item};
+ghost use Rattle.stan_model_grammar.specs.declared.token.Token.{Token};
+ghost use Rattle.stan_model_grammar.specs.declared.token.TokenKind.TheVariants as kinds;
+ghost use Rattle.stan_model_grammar.specs.Trees.{Tree, Item};
 ghost use Rattle.stan_expr.specs.Gives.{Gives, Nests, at, turn};
-ghost use Rattle.stan_expr.specs.Parse.{Read};
-ghost use Rattle.stan_expr.specs.Parse as parse;
-ghost use Rattle.stan_syntax.specs.Tree.{listed};
+ghost use Rattle.stan_expr_rules.specs.Parse.{Read};
+ghost use Rattle.stan_expr_rules.specs.Parse as parse;
+ghost use Rattle.stan_model_grammar.specs.TreeLists.{listed};
 
 use crate::grammar::Grammar;
 use crate::places::{after, may};
 use crate::stop::Stop;
 use sqlite_items::Items;
-use stan_base::php::{Token, TokenKind};
+use stan_model_grammar::token::{Token, TokenKind};
 use stan_syntax::Expr;
 use std::alloc::Global;
 
@@ -36,7 +36,7 @@ impl<'t, F: Fn(Global, &[Token], u32, bool, u8, usize) -> Result<(Expr, usize), 
     F,
 > {
     /// A further item, if a `,` comes next and not the closing token behind it.
-    #[tactic(auto, unfolding(crate::specs::Parse::further_item, crate::specs::Parse::further_after))]
+    #[tactic(auto, unfolding(stan_expr_rules::specs::Parse::further_item, stan_expr_rules::specs::Parse::further_after))]
     fn further<T: Listed>(
         &self,
         closing: TokenKind,
@@ -54,7 +54,7 @@ impl<'t, F: Fn(Global, &[Token], u32, bool, u8, usize) -> Result<(Expr, usize), 
         }
     }
 
-    #[tactic(auto, unfolding(crate::specs::Parse::more_items))]
+    #[tactic(auto, unfolding(stan_expr_rules::specs::Parse::more_items))]
     fn more_items<T: Listed>(
         &self,
         closing: TokenKind,
@@ -80,7 +80,7 @@ impl<'t, F: Fn(Global, &[Token], u32, bool, u8, usize) -> Result<(Expr, usize), 
     }
 
     /// One item at least, and whether a `,` stands behind the last.
-    #[tactic(auto, unfolding(crate::specs::Parse::some_items))]
+    #[tactic(auto, unfolding(stan_expr_rules::specs::Parse::some_items))]
     pub fn some_items<T: Listed>(
         &self,
         closing: TokenKind,
@@ -95,7 +95,7 @@ impl<'t, F: Fn(Global, &[Token], u32, bool, u8, usize) -> Result<(Expr, usize), 
         Ok(((list, comma), to))
     }
 
-    #[tactic(auto, unfolding(crate::specs::Parse::list_items))]
+    #[tactic(auto, unfolding(stan_expr_rules::specs::Parse::list_items))]
     fn list_items<T: Listed>(
         &self,
         closing: TokenKind,
@@ -111,7 +111,7 @@ impl<'t, F: Fn(Global, &[Token], u32, bool, u8, usize) -> Result<(Expr, usize), 
     }
 
     /// A list between two tokens.
-    #[tactic(auto, unfolding(crate::specs::Parse::fenced))]
+    #[tactic(auto, unfolding(stan_expr_rules::specs::Parse::fenced))]
     pub fn fenced<T: Listed>(
         &self,
         opening: TokenKind,
@@ -128,7 +128,7 @@ impl<'t, F: Fn(Global, &[Token], u32, bool, u8, usize) -> Result<(Expr, usize), 
     }
 
     /// A list of one item at least, in round brackets.
-    #[tactic(auto, unfolding(crate::specs::Parse::fenced_some))]
+    #[tactic(auto, unfolding(stan_expr_rules::specs::Parse::fenced_some))]
     pub fn fenced_some<T: Listed>(&self, place: usize) -> Result<((Items<T>, bool), usize), Stop>
         requires { Nests self.now.depth (F.pre self.now.read) (F.post self.now.read) }
         ensures { Gives (at (λ x. listed (map T.item x.0) x.1)) result (parse.fenced_some self.now.tokens.now (parse.below self.now.tokens.now self.now.depth) (T.rule self.now.tokens.now (parse.below self.now.tokens.now self.now.depth)) place) }

@@ -1,10 +1,10 @@
 //! Operands: what stands first with what is appended to it, assignments, and operators before an operand.
 
 ghost use Rattle.std.specs.Prelude.{◌≡◌, ◌<◌, ◌+◌, ◌^◌, Some, slice_get, map};
-ghost use Rattle.stan_base.specs.declared.operators.AssignmentOperator.{AssignmentOperator};
-ghost use Rattle.stan_base.specs.model.PhpStrata.{assignment_size};
+ghost use Rattle.stan_model_grammar.specs.declared.operators.AssignmentOperator.{AssignmentOperator};
+ghost use Rattle.stan_model_grammar.specs.Strata.{assignment_size};
 ghost use Rattle.stan_expr.specs.Gives.{Gives, Nests, at};
-ghost use Rattle.stan_expr.specs.Parse as parse;
+ghost use Rattle.stan_expr_rules.specs.Parse as parse;
 ghost use Rattle.stan_syntax.specs.Tree.{tree_of, suffix_of};
 
 use crate::grammar::Grammar;
@@ -13,8 +13,8 @@ use crate::stop::Stop;
 use crate::strata::{ASSIGNMENT, assignment_size, prefix_of, prefix_stratum};
 use crate::targets::{is_assignable, is_pattern};
 use sqlite_items::{Boxed, Items};
-use stan_base::operators::AssignmentOperator;
-use stan_base::php::{Token, TokenKind};
+use stan_model_grammar::operators::AssignmentOperator;
+use stan_model_grammar::token::{Token, TokenKind};
 use stan_syntax::{Expr, Form, Suffix};
 use std::alloc::Global;
 
@@ -42,7 +42,7 @@ impl<'t, F: Fn(Global, &[Token], u32, bool, u8, usize) -> Result<(Expr, usize), 
     't,
     F,
 > {
-    #[tactic(auto, unfolding(crate::specs::Parse::post_with, crate::specs::Parse::atom_with))]
+    #[tactic(auto, unfolding(stan_expr_rules::specs::Parse::post_with, stan_expr_rules::specs::Parse::atom_with))]
     fn post_with(&self, first: Token, place: usize) -> Result<(Expr, usize), Stop>
         requires nests { Nests self.now.depth (F.pre self.now.read) (F.post self.now.read) }
         requires there { slice_get self.now.tokens.now place ≡ Some first }
@@ -54,7 +54,7 @@ impl<'t, F: Fn(Global, &[Token], u32, bool, u8, usize) -> Result<(Expr, usize), 
     }
 
     /// Nothing is appended to a `new`.
-    #[tactic(auto, using(stan_syntax::proofs::Layers::layers), unfolding(crate::specs::Parse::post, crate::specs::Parse::new_with, crate::specs::Places::same_kind))]
+    #[tactic(auto, using(stan_syntax::proofs::Layers::layers), unfolding(stan_expr_rules::specs::Parse::post, stan_expr_rules::specs::Parse::new_with, stan_expr_rules::specs::Places::same_kind))]
     fn post(&self, first: Token, place: usize) -> Result<(Expr, usize), Stop>
         requires nests { Nests self.now.depth (F.pre self.now.read) (F.post self.now.read) }
         requires there { slice_get self.now.tokens.now place ≡ Some first }
@@ -68,7 +68,7 @@ impl<'t, F: Fn(Global, &[Token], u32, bool, u8, usize) -> Result<(Expr, usize), 
         }
     }
 
-    #[tactic(auto, using(stan_syntax::proofs::Layers::layers), unfolding(crate::specs::Parse::assigned))]
+    #[tactic(auto, using(stan_syntax::proofs::Layers::layers), unfolding(stan_expr_rules::specs::Parse::assigned))]
     fn assigned(
         &self,
         target: Expr,
@@ -116,7 +116,7 @@ impl<'t, F: Fn(Global, &[Token], u32, bool, u8, usize) -> Result<(Expr, usize), 
         }
     }
 
-    #[tactic(auto, unfolding(crate::specs::Parse::target))]
+    #[tactic(auto, unfolding(stan_expr_rules::specs::Parse::target))]
     fn target(&self, pattern: bool, first: Token, place: usize) -> Result<(Expr, usize), Stop>
         requires nests { Nests self.now.depth (F.pre self.now.read) (F.post self.now.read) }
         requires there { slice_get self.now.tokens.now place ≡ Some first }
@@ -126,7 +126,7 @@ impl<'t, F: Fn(Global, &[Token], u32, bool, u8, usize) -> Result<(Expr, usize), 
         self.target_by(pattern, assigning_at(self.tokens, to), e, to)
     }
 
-    #[tactic(auto, using(stan_syntax::proofs::Layers::layers), unfolding(crate::specs::Parse::operand, crate::specs::Parse::prefixed))]
+    #[tactic(auto, using(stan_syntax::proofs::Layers::layers), unfolding(stan_expr_rules::specs::Parse::operand, stan_expr_rules::specs::Parse::prefixed))]
     pub fn operand(&self, pattern: bool, place: usize) -> Result<(Expr, usize), Stop>
         requires { Nests self.now.depth (F.pre self.now.read) (F.post self.now.read) }
         ensures { Gives (at tree_of) result (parse.operand self.now.tokens.now (parse.below self.now.tokens.now self.now.depth) pattern place) }

@@ -3,7 +3,7 @@
 ghost use Rattle.std.specs.Prelude.{◌≡◌, ◌<◌, ◌-◌, Some, false, length, map};
 ghost use Rattle.stan_expr.specs.Branches.{branches};
 ghost use Rattle.stan_expr.specs.Gives.{Gives, Nests, at, turn};
-ghost use Rattle.stan_expr.specs.Parse as parse;
+ghost use Rattle.stan_expr_rules.specs.Parse as parse;
 ghost use Rattle.stan_syntax.specs.Tree.{tree_of, operation_of};
 
 use crate::grammar::Grammar;
@@ -14,8 +14,8 @@ use crate::strata::{
 };
 use crate::targets::{is_conditional, is_pattern};
 use sqlite_items::{Boxed, Items};
-use stan_base::operators::{BinaryOperator, Fixity};
-use stan_base::php::{Token, TokenKind};
+use stan_model_grammar::operators::{BinaryOperator, Fixity};
+use stan_model_grammar::token::{Token, TokenKind};
 use stan_syntax::{Expr, Form, Operation};
 use std::alloc::Global;
 
@@ -35,7 +35,7 @@ impl<'t, F: Fn(Global, &[Token], u32, bool, u8, usize) -> Result<(Expr, usize), 
     't,
     F,
 > {
-    #[tactic(auto, using(stan_syntax::proofs::Layers::layers), unfolding(crate::specs::Parse::operation_with))]
+    #[tactic(auto, using(stan_syntax::proofs::Layers::layers), unfolding(stan_expr_rules::specs::Parse::operation_with))]
     fn operation_with(
         &self,
         operator: BinaryOperator,
@@ -49,7 +49,7 @@ impl<'t, F: Fn(Global, &[Token], u32, bool, u8, usize) -> Result<(Expr, usize), 
     }
 
     /// A further operator of a stratum with its operand, if one comes next.
-    #[tactic(auto, using(stan_syntax::proofs::Layers::layers), unfolding(crate::specs::Parse::operation_at))]
+    #[tactic(auto, using(stan_syntax::proofs::Layers::layers), unfolding(stan_expr_rules::specs::Parse::operation_at))]
     fn operation(&self, stratum: u8, place: usize) -> Result<Option<(Operation, usize)>, Stop>
         requires { Nests self.now.depth (F.pre self.now.read) (F.post self.now.read) }
         ensures { Gives (turn operation_of) result (parse.operation_at self.now.tokens.now (parse.below self.now.tokens.now self.now.depth) stratum place) }
@@ -63,7 +63,7 @@ impl<'t, F: Fn(Global, &[Token], u32, bool, u8, usize) -> Result<(Expr, usize), 
         }
     }
 
-    #[tactic(auto, using(stan_syntax::proofs::Layers::layers), unfolding(crate::specs::Parse::operations, crate::specs::Parse::all))]
+    #[tactic(auto, using(stan_syntax::proofs::Layers::layers), unfolding(stan_expr_rules::specs::Parse::operations, stan_expr_rules::specs::Parse::all))]
     fn operations(&self, stratum: u8, from: usize) -> Result<(Items<Operation>, usize), Stop>
         requires { Nests self.now.depth (F.pre self.now.read) (F.post self.now.read) }
         ensures { Gives (at (map operation_of)) result (parse.operations self.now.tokens.now (parse.below self.now.tokens.now self.now.depth) stratum from) }
@@ -82,7 +82,7 @@ impl<'t, F: Fn(Global, &[Token], u32, bool, u8, usize) -> Result<(Expr, usize), 
         Err(Stop::Absent)
     }
 
-    #[tactic(auto, unfolding(crate::specs::Parse::chain))]
+    #[tactic(auto, unfolding(stan_expr_rules::specs::Parse::chain))]
     fn chain(&self, stratum: u8, e: Expr, place: usize) -> Result<(Expr, usize), Stop>
         requires { Nests self.now.depth (F.pre self.now.read) (F.post self.now.read) }
         ensures { Gives (at tree_of) result (parse.chain self.now.tokens.now (parse.below self.now.tokens.now self.now.depth) stratum (tree_of e) place) }
@@ -91,7 +91,7 @@ impl<'t, F: Fn(Global, &[Token], u32, bool, u8, usize) -> Result<(Expr, usize), 
         Ok((with_operations(self.alloc, e, operations)?, to))
     }
 
-    #[tactic(auto, using(stan_syntax::proofs::Layers::layers), unfolding(crate::specs::Parse::binary))]
+    #[tactic(auto, using(stan_syntax::proofs::Layers::layers), unfolding(stan_expr_rules::specs::Parse::binary))]
     fn binary(
         &self,
         left: Expr,
@@ -144,7 +144,7 @@ impl<'t, F: Fn(Global, &[Token], u32, bool, u8, usize) -> Result<(Expr, usize), 
     }
 
     /// An operation of a stratum with this left side, at its operator.
-    #[tactic(auto, unfolding(crate::specs::Parse::operated))]
+    #[tactic(auto, unfolding(stan_expr_rules::specs::Parse::operated))]
     fn operated(&self, stratum: u8, e: Expr, place: usize) -> Result<(Expr, usize), Stop>
         requires nests { Nests self.now.depth (F.pre self.now.read) (F.post self.now.read) }
         requires there { place < length self.now.tokens.now }
@@ -166,7 +166,7 @@ impl<'t, F: Fn(Global, &[Token], u32, bool, u8, usize) -> Result<(Expr, usize), 
         }
     }
 
-    #[tactic(auto, unfolding(crate::specs::Parse::stratum))]
+    #[tactic(auto, unfolding(stan_expr_rules::specs::Parse::stratum))]
     fn stratum(&self, stratum: u8, e: Expr, place: usize) -> Result<(Expr, usize), Stop>
         requires { Nests self.now.depth (F.pre self.now.read) (F.post self.now.read) }
         ensures { Gives (at tree_of) result (parse.stratum self.now.tokens.now (parse.below self.now.tokens.now self.now.depth) stratum (tree_of e) place) }
@@ -183,7 +183,7 @@ impl<'t, F: Fn(Global, &[Token], u32, bool, u8, usize) -> Result<(Expr, usize), 
     }
 
     /// An operand, and the operators behind it up to this stratum.
-    #[tactic(auto, unfolding(crate::specs::Parse::strata))]
+    #[tactic(auto, unfolding(stan_expr_rules::specs::Parse::strata))]
     pub fn strata(&self, pattern: bool, stratum: u8, place: usize) -> Result<(Expr, usize), Stop>
         requires { Nests self.now.depth (F.pre self.now.read) (F.post self.now.read) }
         ensures { Gives (at tree_of) result (parse.strata self.now.tokens.now (parse.below self.now.tokens.now self.now.depth) pattern (stratum - 5) place) }

@@ -3,7 +3,7 @@
 ghost use Rattle.std.specs.Prelude.{◌<◌, ◌^◌, IfOk, length};
 ghost use Rattle.stan_expr.specs.Answer.{Answers};
 ghost use Rattle.stan_expr.specs.Gives.{Gives, at};
-ghost use Rattle.stan_expr.specs.Parse as parse;
+ghost use Rattle.stan_expr_rules.specs.Parse as parse;
 ghost use Rattle.stan_syntax.specs.Tree.{tree_of};
 
 use crate::grammar::Grammar;
@@ -11,7 +11,7 @@ use crate::places::kind_at;
 use crate::stop::Stop;
 use crate::strata::{LOOSEST, is_end};
 use stan_base::OutOfMemory;
-use stan_base::php::Token;
+use stan_model_grammar::token::Token;
 use stan_syntax::Expr;
 use std::alloc::Global;
 
@@ -50,7 +50,7 @@ fn below(
 }
 
 /// An expression with at most this many levels.
-#[tactic(auto, unfolding(crate::specs::Parse::expression_at))]
+#[tactic(auto, unfolding(stan_expr_rules::specs::Parse::expression_at))]
 fn expression_at(
     alloc: Global,
     tokens: &[Token],

@@ -1,15 +1,15 @@
 //! What stands at a place of the tokens.
 
 ghost use Rattle.std.specs.Prelude.{◌≡◌, ◌≢◌, ◌+◌, slice_get};
-ghost use Rattle.stan_base.specs.declared.php.TokenKind.TheVariants as kinds;
-ghost use Rattle.stan_base.specs.model.PhpStrata as strata;
-ghost use Rattle.stan_expr.specs.Places as spec;
+ghost use Rattle.stan_model_grammar.specs.declared.token.TokenKind.TheVariants as kinds;
+ghost use Rattle.stan_model_grammar.specs.Strata as strata;
+ghost use Rattle.stan_expr_rules.specs.Places as spec;
 
 use crate::strata::{assignment_at, binary_at, joins};
-use stan_base::operators::{AssignmentOperator, BinaryOperator};
-use stan_base::php::{Token, TokenKind};
+use stan_model_grammar::operators::{AssignmentOperator, BinaryOperator};
+use stan_model_grammar::token::{Token, TokenKind};
 
-#[tactic(auto, unfolding(stan_base::specs::model::PhpStrata::kind_at))]
+#[tactic(auto, unfolding(stan_model_grammar::specs::Strata::kind_at))]
 pub fn kind_at(tokens: &[Token], at: usize) -> TokenKind
     ensures { result ≡ strata.kind_at tokens.now at }
 {
@@ -40,7 +40,7 @@ pub fn next_kind(tokens: &[Token], at: usize) -> TokenKind
 }
 
 /// The place behind a token of this kind, if one stands there.
-#[tactic(auto, unfolding(crate::specs::Places::after, crate::specs::Places::same_kind))]
+#[tactic(auto, unfolding(stan_expr_rules::specs::Places::after, stan_expr_rules::specs::Places::same_kind))]
 pub fn after(tokens: &[Token], kind: TokenKind, at: usize) -> Option<usize>
     ensures { result ≡ spec.after tokens.now kind at }
 {
@@ -68,7 +68,7 @@ pub fn after_next(tokens: &[Token], kind: TokenKind, at: usize) -> Option<usize>
 }
 
 /// Whether such a token stands there, and the place behind it.
-#[tactic(auto, unfolding(crate::specs::Places::may))]
+#[tactic(auto, unfolding(stan_expr_rules::specs::Places::may))]
 pub fn may(tokens: &[Token], kind: TokenKind, at: usize) -> (bool, usize)
     ensures { result ≡ spec.may tokens.now kind at }
 {
@@ -79,21 +79,21 @@ pub fn may(tokens: &[Token], kind: TokenKind, at: usize) -> (bool, usize)
 }
 
 /// The stratum in which the token there goes on with the expression before it.
-#[tactic(auto, unfolding(crate::specs::Places::joins_at))]
+#[tactic(auto, unfolding(stan_expr_rules::specs::Places::joins_at))]
 pub fn joins_at(tokens: &[Token], at: usize) -> u8
     ensures { result ≡ spec.joins_at tokens.now at }
 {
     joins(kind_at(tokens, at), next_kind(tokens, at))
 }
 
-#[tactic(auto, unfolding(crate::specs::Places::operator_at))]
+#[tactic(auto, unfolding(stan_expr_rules::specs::Places::operator_at))]
 pub fn operator_at(tokens: &[Token], at: usize) -> Option<BinaryOperator>
     ensures { result ≡ spec.operator_at tokens.now at }
 {
     binary_at(kind_at(tokens, at), next_kind(tokens, at))
 }
 
-#[tactic(auto, unfolding(crate::specs::Places::assigning_at))]
+#[tactic(auto, unfolding(stan_expr_rules::specs::Places::assigning_at))]
 pub fn assigning_at(tokens: &[Token], at: usize) -> Option<AssignmentOperator>
     ensures { result ≡ spec.assigning_at tokens.now at }
 {

@@ -1,13 +1,13 @@
 //! Which tokens are operators, how tightly they bind, and which words stand where, in the rows of the definition.
 
 ghost use Rattle.std.specs.Prelude.{◌≡◌, ◌≤◌};
-ghost use Rattle.stan_base.specs.model.PhpStrata as spec;
+ghost use Rattle.stan_model_grammar.specs.Strata as spec;
 
-use stan_base::operators::{
+use stan_model_grammar::keyword::is_keyword;
+use stan_model_grammar::operators::{
     AssignmentOperator, BinaryOperator, Fixity, Leaf, PrefixOperator, Visibility,
 };
-use stan_base::php::TokenKind;
-use stan_lexer::is_keyword;
+use stan_model_grammar::token::TokenKind;
 
 /// The stratum of the loosest expression.
 pub const LOOSEST: u8 = 29;

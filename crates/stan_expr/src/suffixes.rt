@@ -1,17 +1,18 @@
 //! What is appended to an expression.
 
 ghost use Rattle.std.specs.Prelude.{◌≡◌, map, option_map};
-ghost use Rattle.stan_base.specs.model.PhpTrees.{arguments};
+ghost use Rattle.stan_model_grammar.specs.Trees.{arguments};
 ghost use Rattle.stan_expr.specs.Gives.{Gives, Nests, at, turn};
-ghost use Rattle.stan_expr.specs.Parse as parse;
-ghost use Rattle.stan_syntax.specs.Tree.{arguments_of, suffix_of, member_of, may_be_called};
+ghost use Rattle.stan_expr_rules.specs.Parse as parse;
+ghost use Rattle.stan_model_grammar.specs.TreeLists.{may_be_called};
+ghost use Rattle.stan_syntax.specs.Tree.{arguments_of, suffix_of, member_of};
 
 use crate::grammar::Grammar;
 use crate::places::{after, after_next, token_at};
 use crate::stop::Stop;
 use crate::strata::{names_member, names_scoped};
 use sqlite_items::{Boxed, Items};
-use stan_base::php::{Token, TokenKind};
+use stan_model_grammar::token::{Token, TokenKind};
 use stan_syntax::{Arguments, Expr, MemberName, Suffix};
 use std::alloc::Global;
 
@@ -20,7 +21,7 @@ impl<'t, F: Fn(Global, &[Token], u32, bool, u8, usize) -> Result<(Expr, usize), 
     F,
 > {
     /// In brackets.
-    #[tactic(auto, using(stan_syntax::proofs::Layers::layers), unfolding(crate::specs::Parse::some_arguments))]
+    #[tactic(auto, using(stan_syntax::proofs::Layers::layers), unfolding(stan_expr_rules::specs::Parse::some_arguments))]
     fn some_arguments(&self, place: usize) -> Result<(Arguments, usize), Stop>
         requires { Nests self.now.depth (F.pre self.now.read) (F.post self.now.read) }
         ensures { Gives (at (λ x. arguments (arguments_of x))) result (parse.some_arguments self.now.tokens.now (parse.below self.now.tokens.now self.now.depth) place) }
@@ -34,7 +35,7 @@ impl<'t, F: Fn(Global, &[Token], u32, bool, u8, usize) -> Result<(Expr, usize), 
     }
 
     /// Arguments, if a bracket comes next.
-    #[tactic(auto, using(stan_syntax::proofs::Layers::layers), unfolding(crate::specs::Parse::may_be_called))]
+    #[tactic(auto, using(stan_syntax::proofs::Layers::layers), unfolding(stan_expr_rules::specs::Parse::may_be_called))]
     pub fn may_be_called(&self, place: usize) -> Result<(Option<Arguments>, usize), Stop>
         requires { Nests self.now.depth (F.pre self.now.read) (F.post self.now.read) }
         ensures { Gives (at (λ x. may_be_called (option_map arguments_of x))) result (parse.may_be_called self.now.tokens.now (parse.below self.now.tokens.now self.now.depth) place) }
@@ -48,7 +49,7 @@ impl<'t, F: Fn(Global, &[Token], u32, bool, u8, usize) -> Result<(Expr, usize), 
         }
     }
 
-    #[tactic(auto, using(stan_syntax::proofs::Layers::layers), unfolding(crate::specs::Parse::called))]
+    #[tactic(auto, using(stan_syntax::proofs::Layers::layers), unfolding(stan_expr_rules::specs::Parse::called))]
     fn called(&self, callable: bool, place: usize) -> Result<(Option<Arguments>, usize), Stop>
         requires { Nests self.now.depth (F.pre self.now.read) (F.post self.now.read) }
         ensures { Gives (at (λ x. may_be_called (option_map arguments_of x))) result (parse.called self.now.tokens.now (parse.below self.now.tokens.now self.now.depth) callable place) }
@@ -61,7 +62,7 @@ impl<'t, F: Fn(Global, &[Token], u32, bool, u8, usize) -> Result<(Expr, usize), 
     }
 
     /// Behind an arrow.
-    #[tactic(auto, using(stan_syntax::proofs::Layers::layers), unfolding(crate::specs::Parse::member, crate::specs::Parse::computed_member, crate::specs::Parse::named_member))]
+    #[tactic(auto, using(stan_syntax::proofs::Layers::layers), unfolding(stan_expr_rules::specs::Parse::member, stan_expr_rules::specs::Parse::computed_member, stan_expr_rules::specs::Parse::named_member))]
     fn member(&self, place: usize) -> Result<(MemberName, usize), Stop>
         requires { Nests self.now.depth (F.pre self.now.read) (F.post self.now.read) }
         ensures { Gives (at member_of) result (parse.member self.now.tokens.now (parse.below self.now.tokens.now self.now.depth) place) }
@@ -76,7 +77,7 @@ impl<'t, F: Fn(Global, &[Token], u32, bool, u8, usize) -> Result<(Expr, usize), 
         }
     }
 
-    #[tactic(auto, using(stan_syntax::proofs::Layers::layers), unfolding(crate::specs::Parse::property))]
+    #[tactic(auto, using(stan_syntax::proofs::Layers::layers), unfolding(stan_expr_rules::specs::Parse::property))]
     fn property(
         &self,
         callable: bool,
@@ -96,7 +97,7 @@ impl<'t, F: Fn(Global, &[Token], u32, bool, u8, usize) -> Result<(Expr, usize), 
         Ok((property, to))
     }
 
-    #[tactic(auto, using(stan_syntax::proofs::Layers::layers), unfolding(crate::specs::Parse::scoped_with))]
+    #[tactic(auto, using(stan_syntax::proofs::Layers::layers), unfolding(stan_expr_rules::specs::Parse::scoped_with))]
     fn scoped_with(
         &self,
         callable: bool,
@@ -111,7 +112,7 @@ impl<'t, F: Fn(Global, &[Token], u32, bool, u8, usize) -> Result<(Expr, usize), 
     }
 
     /// Behind `::`.
-    #[tactic(auto, using(stan_syntax::proofs::Layers::layers), unfolding(crate::specs::Parse::scoped))]
+    #[tactic(auto, using(stan_syntax::proofs::Layers::layers), unfolding(stan_expr_rules::specs::Parse::scoped))]
     fn scoped(&self, place: usize) -> Result<(Suffix, usize), Stop>
         requires { Nests self.now.depth (F.pre self.now.read) (F.post self.now.read) }
         ensures { Gives (at suffix_of) result (parse.scoped self.now.tokens.now (parse.below self.now.tokens.now self.now.depth) place) }
@@ -123,7 +124,7 @@ impl<'t, F: Fn(Global, &[Token], u32, bool, u8, usize) -> Result<(Expr, usize), 
     }
 
     /// Behind `::`, where a variable stands.
-    #[tactic(auto, using(stan_syntax::proofs::Layers::layers), unfolding(crate::specs::Parse::class_scoped))]
+    #[tactic(auto, using(stan_syntax::proofs::Layers::layers), unfolding(stan_expr_rules::specs::Parse::class_scoped))]
     fn class_scoped(&self, place: usize) -> Result<Option<(Suffix, usize)>, Stop>
         requires { Nests self.now.depth (F.pre self.now.read) (F.post self.now.read) }
         ensures { Gives (turn suffix_of) result (parse.class_scoped self.now.tokens.now (parse.below self.now.tokens.now self.now.depth) place) }
@@ -138,7 +139,7 @@ impl<'t, F: Fn(Global, &[Token], u32, bool, u8, usize) -> Result<(Expr, usize), 
     }
 
     /// At `[`.
-    #[tactic(auto, using(stan_syntax::proofs::Layers::layers), unfolding(crate::specs::Parse::bracket, crate::specs::Parse::index))]
+    #[tactic(auto, using(stan_syntax::proofs::Layers::layers), unfolding(stan_expr_rules::specs::Parse::bracket, stan_expr_rules::specs::Parse::index))]
     fn bracket(&self, place: usize) -> Result<(Suffix, usize), Stop>
         requires { Nests self.now.depth (F.pre self.now.read) (F.post self.now.read) }
         ensures { Gives (at suffix_of) result (parse.bracket self.now.tokens.now (parse.below self.now.tokens.now self.now.depth) place) }
@@ -150,7 +151,7 @@ impl<'t, F: Fn(Global, &[Token], u32, bool, u8, usize) -> Result<(Expr, usize), 
         Ok((Suffix::Index(Boxed::new(self.alloc, e)?), to))
     }
 
-    #[tactic(auto, using(stan_syntax::proofs::Layers::layers), unfolding(crate::specs::Parse::call))]
+    #[tactic(auto, using(stan_syntax::proofs::Layers::layers), unfolding(stan_expr_rules::specs::Parse::call))]
     fn call(&self, place: usize) -> Result<(Suffix, usize), Stop>
         requires { Nests self.now.depth (F.pre self.now.read) (F.post self.now.read) }
         ensures { Gives (at suffix_of) result (parse.call self.now.tokens.now (parse.below self.now.tokens.now self.now.depth) place) }
@@ -163,7 +164,7 @@ impl<'t, F: Fn(Global, &[Token], u32, bool, u8, usize) -> Result<(Expr, usize), 
         Ok((Suffix::Call(Arguments { list, comma }), to))
     }
 
-    #[tactic(auto, using(stan_syntax::proofs::Layers::layers), unfolding(crate::specs::Parse::suffix_at, stan_base::specs::model::PhpStrata::kind_at))]
+    #[tactic(auto, using(stan_syntax::proofs::Layers::layers), unfolding(stan_expr_rules::specs::Parse::suffix_at, stan_model_grammar::specs::Strata::kind_at))]
     fn suffix(&self, place: usize) -> Result<Option<(Suffix, usize)>, Stop>
         requires { Nests self.now.depth (F.pre self.now.read) (F.post self.now.read) }
         ensures { Gives (turn suffix_of) result (parse.suffix_at self.now.tokens.now (parse.below self.now.tokens.now self.now.depth) place) }
@@ -183,7 +184,7 @@ impl<'t, F: Fn(Global, &[Token], u32, bool, u8, usize) -> Result<(Expr, usize), 
         }
     }
 
-    #[tactic(auto, unfolding(crate::specs::Parse::class_suffix_at, stan_base::specs::model::PhpStrata::kind_at))]
+    #[tactic(auto, unfolding(stan_expr_rules::specs::Parse::class_suffix_at, stan_model_grammar::specs::Strata::kind_at))]
     fn class_suffix(&self, place: usize) -> Result<Option<(Suffix, usize)>, Stop>
         requires { Nests self.now.depth (F.pre self.now.read) (F.post self.now.read) }
         ensures { Gives (turn suffix_of) result (parse.class_suffix_at self.now.tokens.now (parse.below self.now.tokens.now self.now.depth) place) }
@@ -200,7 +201,7 @@ impl<'t, F: Fn(Global, &[Token], u32, bool, u8, usize) -> Result<(Expr, usize), 
         }
     }
 
-    #[tactic(auto, using(stan_syntax::proofs::Layers::layers), unfolding(crate::specs::Parse::suffixes, crate::specs::Parse::all))]
+    #[tactic(auto, using(stan_syntax::proofs::Layers::layers), unfolding(stan_expr_rules::specs::Parse::suffixes, stan_expr_rules::specs::Parse::all))]
     pub fn suffixes(&self, from: usize) -> Result<(Items<Suffix>, usize), Stop>
         requires { Nests self.now.depth (F.pre self.now.read) (F.post self.now.read) }
         ensures { Gives (at (map suffix_of)) result (parse.suffixes self.now.tokens.now (parse.below self.now.tokens.now self.now.depth) from) }
@@ -219,7 +220,7 @@ impl<'t, F: Fn(Global, &[Token], u32, bool, u8, usize) -> Result<(Expr, usize), 
         Err(Stop::Absent)
     }
 
-    #[tactic(auto, using(stan_syntax::proofs::Layers::layers), unfolding(crate::specs::Parse::class_suffixes, crate::specs::Parse::all))]
+    #[tactic(auto, using(stan_syntax::proofs::Layers::layers), unfolding(stan_expr_rules::specs::Parse::class_suffixes, stan_expr_rules::specs::Parse::all))]
     pub fn class_suffixes(&self, from: usize) -> Result<(Items<Suffix>, usize), Stop>
         requires { Nests self.now.depth (F.pre self.now.read) (F.post self.now.read) }
         ensures { Gives (at (map suffix_of)) result (parse.class_suffixes self.now.tokens.now (parse.below self.now.tokens.now self.now.depth) from) }

@@ -1,15 +1,16 @@
 //! What may be assigned to.
 
 ghost use Rattle.std.specs.Prelude.{◌≡◌, ◌&&◌, not, map, option_map};
-ghost use Rattle.stan_base.specs.model.PhpGrammar as grammar;
-ghost use Rattle.stan_base.specs.model.PhpStrata as strata;
-ghost use Rattle.stan_base.specs.model.PhpTrees as model;
-ghost use Rattle.stan_expr.specs.Parse as parse;
+ghost use Rattle.stan_model_grammar.specs.Expressions as grammar;
+ghost use Rattle.stan_model_grammar.specs.Strata as strata;
+ghost use Rattle.stan_model_grammar.specs.Trees as model;
+ghost use Rattle.stan_expr_rules.specs.Parse as parse;
 ghost use Rattle.stan_expr.specs.Targets as spec;
-ghost use Rattle.stan_syntax.specs.Tree.{tree_of, arguments_of, element_of, suffix_of, may_be_called, furthers};
+ghost use Rattle.stan_model_grammar.specs.TreeLists.{may_be_called, furthers};
+ghost use Rattle.stan_syntax.specs.Tree.{tree_of, arguments_of, element_of, suffix_of};
 
-use stan_base::operators::{ArrayStyle, AssignmentOperator, Leaf};
-use stan_base::php::TokenKind;
+use stan_model_grammar::operators::{ArrayStyle, AssignmentOperator, Leaf};
+use stan_model_grammar::token::TokenKind;
 use stan_syntax::{Arguments, Element, Expr, Form, Suffix};
 
 /// Whether it is an array that holds `list(..)`, itself or as a value.

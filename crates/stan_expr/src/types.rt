@@ -1,21 +1,21 @@
 //! Written types, and what stands before a parameter.
 
 ghost use Rattle.std.specs.Prelude.{◌≡◌};
-ghost use Rattle.stan_base.specs.model.PhpStrata as strata;
+ghost use Rattle.stan_model_grammar.specs.Strata as strata;
 ghost use Rattle.stan_expr.specs.Gives.{Gives, at, turn};
-ghost use Rattle.stan_expr.specs.Parse as parse;
+ghost use Rattle.stan_expr_rules.specs.Parse as parse;
 ghost use Rattle.stan_syntax.specs.Tree.{type_of, may_type};
 
 use crate::places::{after, kind_at, token_at};
 use crate::stop::Stop;
 use crate::strata::{names_type, visibility_of};
 use sqlite_items::Items;
-use stan_base::operators::Visibility;
-use stan_base::php::{Token, TokenKind};
+use stan_model_grammar::operators::Visibility;
+use stan_model_grammar::token::{Token, TokenKind};
 use stan_syntax::TypeTree;
 use std::alloc::Global;
 
-#[tactic(auto, unfolding(crate::specs::Parse::type_name))]
+#[tactic(auto, unfolding(stan_expr_rules::specs::Parse::type_name))]
 fn type_name(tokens: &[Token], at: usize) -> Result<(Token, usize), Stop>
     ensures { Gives (λ x. x) result (parse.type_name tokens.now at) }
 {
@@ -30,7 +30,7 @@ fn type_name(tokens: &[Token], at: usize) -> Result<(Token, usize), Stop>
 }
 
 /// A further name, if a `|` comes next.
-#[tactic(auto, unfolding(crate::specs::Parse::alternative))]
+#[tactic(auto, unfolding(stan_expr_rules::specs::Parse::alternative))]
 fn alternative(tokens: &[Token], at: usize) -> Result<Option<(Token, usize)>, Stop>
     ensures { Gives (λ x. x) result (parse.alternative tokens.now at) }
 {
@@ -40,7 +40,7 @@ fn alternative(tokens: &[Token], at: usize) -> Result<Option<(Token, usize)>, St
     }
 }
 
-#[tactic(auto, unfolding(crate::specs::Parse::alternatives, crate::specs::Parse::all))]
+#[tactic(auto, unfolding(stan_expr_rules::specs::Parse::alternatives, stan_expr_rules::specs::Parse::all))]
 fn alternatives(alloc: Global, tokens: &[Token], at: usize) -> Result<(Items<Token>, usize), Stop>
     ensures { Gives (λ x. x) result (parse.alternatives tokens.now at) }
 {
@@ -58,7 +58,7 @@ fn alternatives(alloc: Global, tokens: &[Token], at: usize) -> Result<(Items<Tok
     Err(Stop::Absent)
 }
 
-#[tactic(auto, unfolding(crate::specs::Parse::union))]
+#[tactic(auto, unfolding(stan_expr_rules::specs::Parse::union))]
 fn union(alloc: Global, tokens: &[Token], place: usize) -> Result<(TypeTree, usize), Stop>
     ensures { Gives (at type_of) result (parse.union tokens.now place) }
 {
@@ -67,7 +67,7 @@ fn union(alloc: Global, tokens: &[Token], place: usize) -> Result<(TypeTree, usi
     Ok((TypeTree::Union(name, more), to))
 }
 
-#[tactic(auto, unfolding(crate::specs::Parse::nullable))]
+#[tactic(auto, unfolding(stan_expr_rules::specs::Parse::nullable))]
 fn nullable(tokens: &[Token], first: Token, place: usize) -> Result<(TypeTree, usize), Stop>
     ensures { Gives (at type_of) result (parse.nullable tokens.now first place) }
 {
@@ -75,7 +75,7 @@ fn nullable(tokens: &[Token], first: Token, place: usize) -> Result<(TypeTree, u
     Ok((TypeTree::Nullable(first, name), to))
 }
 
-#[tactic(auto, unfolding(crate::specs::Parse::type_tree, crate::specs::Places::same_kind))]
+#[tactic(auto, unfolding(stan_expr_rules::specs::Parse::type_tree, stan_expr_rules::specs::Places::same_kind))]
 fn type_tree(alloc: Global, tokens: &[Token], place: usize) -> Result<(TypeTree, usize), Stop>
     ensures { Gives (at type_of) result (parse.type_tree tokens.now place) }
 {
@@ -86,7 +86,7 @@ fn type_tree(alloc: Global, tokens: &[Token], place: usize) -> Result<(TypeTree,
     }
 }
 
-#[tactic(auto, unfolding(crate::specs::Parse::some_type))]
+#[tactic(auto, unfolding(stan_expr_rules::specs::Parse::some_type))]
 fn some_type(
     alloc: Global,
     tokens: &[Token],
@@ -108,7 +108,7 @@ fn begins_type(tokens: &[Token], place: usize) -> bool
 }
 
 /// A type, if one begins there.
-#[tactic(auto, unfolding(crate::specs::Parse::may_type))]
+#[tactic(auto, unfolding(stan_expr_rules::specs::Parse::may_type))]
 pub fn may_type(
     alloc: Global,
     tokens: &[Token],
@@ -124,7 +124,7 @@ pub fn may_type(
 }
 
 /// The type behind a `:`, if one stands there.
-#[tactic(auto, unfolding(crate::specs::Parse::may_return))]
+#[tactic(auto, unfolding(stan_expr_rules::specs::Parse::may_return))]
 pub fn may_return(
     alloc: Global,
     tokens: &[Token],
@@ -138,7 +138,7 @@ pub fn may_return(
     }
 }
 
-#[tactic(auto, unfolding(crate::specs::Parse::visibility, stan_base::specs::model::PhpStrata::kind_at))]
+#[tactic(auto, unfolding(stan_expr_rules::specs::Parse::visibility, stan_model_grammar::specs::Strata::kind_at))]
 pub fn visibility_at(tokens: &[Token], place: usize) -> (Option<Visibility>, usize)
     ensures { result ≡ parse.visibility tokens.now place }
 {

@@ -4,10 +4,10 @@ use Rattle.std.specs.Prelude.{◌==◌, slice_get}
 use Rattle.std.proofs.lemmas.Bool.{ne_eqb}
 use Rattle.std.proofs.lemmas.List.{take_all}
 use Rattle.std.proofs.lemmas.Option.{slice_get_read}
-use Rattle.stan_base.specs.declared.php.TokenKind.TheVariants.{Bad}
+use Rattle.stan_model_grammar.specs.declared.token.TokenKind.TheVariants.{Bad}
 use Rattle.std.proofs.lemmas.List.Sums.{fold_more}
-use Rattle.stan_base.specs.declared.php.Token.{Token}
-use Rattle.stan_base.specs.model.PhpTokens.{texts_behind, open_texts, IsOpenText, IsCut, as_kind}
+use Rattle.stan_model_grammar.specs.declared.token.Token.{Token}
+use Rattle.stan_model_grammar.specs.Tokens.{texts_behind, open_texts, IsOpenText, IsCut, as_kind}
 
 pub open_texts_none : 0 ≡ open_texts []
 unfolding open_texts

@@ -2,9 +2,9 @@
 use Rattle.std.proofs.Common.{◌≡◌, ℕ, ◌+◌, ◌-◌, ◌<◌, ◌≤◌, List, Bool, true, false, length, min, refl, sym, ap, ◌∙◌, arith, ⊎_elim}
 use Rattle.std.specs.Prelude.{◌==◌, ◌||◌, ◌&&◌, not, slice_index, IsTrue}
 use Rattle.std.proofs.lemmas.Bool.{cases_lt, false≢true, ne_eqb}
-use Rattle.stan_base.specs.model.PhpBytes.{run_end, line_at}
-use Rattle.stan_base.specs.model.PhpHeredocs.{line_closes, closes, body_end}
-use Rattle.stan_base.proofs.PhpRunLemmas.{run_end_past, run_end_stops, run_end_skips, run_end_passes, run_end_fails, run_end_rises}
+use Rattle.stan_model_grammar.specs.Runs.{run_end, line_at}
+use Rattle.stan_model_grammar.specs.Heredocs.{line_closes, closes, body_end}
+use Rattle.stan_lexer.proofs.RunEndLemmas.{run_end_past, run_end_stops, run_end_skips, run_end_passes, run_end_fails, run_end_rises}
 
 module _ (source label : List ℕ) (body : ℕ) where
   -- A line begins there.

@@ -2,9 +2,9 @@
 use Rattle.std.proofs.Common.{◌≡◌, ℕ, ◌<◌, ◌≤◌, List, [], ◌∷◌, ◌++◌, length, true, false, refl}
 use Rattle.std.specs.Prelude.{MatchBool}
 use Rattle.std.proofs.lemmas.List.{append_assoc, append-nil}
-use Rattle.stan_base.specs.declared.php.Opening.{Opening}
-use Rattle.stan_base.specs.declared.php.Token.{Token}
-use Rattle.stan_base.specs.model.PhpTokens.{top, open_behind, next_start, lexeme, is_bad, AreLexemes}
+use Rattle.stan_model_grammar.specs.declared.token.Opening.{Opening}
+use Rattle.stan_model_grammar.specs.declared.token.Token.{Token}
+use Rattle.stan_model_grammar.specs.Tokens.{top, open_behind, next_start, lexeme, is_bad, AreLexemes}
 
 module _ (source : List ℕ) (from : ℕ) where
   -- These lexemes are read from one place up to another, where some things are open: the lexemes from there on complete them.

@@ -3,7 +3,10 @@ pub mod TableLemmas
 pub mod NumberLemmas
 pub mod QuoteLemmas
 pub mod HeredocLemmas
-pub mod KindLemmas
 pub mod LexemeLemmas
 pub mod CutLemmas
 pub mod ValueLemmas
+pub mod MarkLemmas
+pub mod OrderLemmas
+pub mod RunEndLemmas
+pub mod TokenLemmas

@@ -3,7 +3,7 @@ use Rattle.std.proofs.Common.{◌≡◌, ℕ, ◌+◌, ◌*◌, ◌<◌, ◌≤�
 use Rattle.std.specs.Prelude.{◌==◌}
 use Rattle.std.specs.List.{fold}
 use Rattle.std.proofs.Math.Nat.{mul-le-mul_left}
-use Rattle.stan_base.specs.model.PhpBytes.{with_digit, digit_value, digits_value}
+use Rattle.stan_model_grammar.specs.Runs.{with_digit, digit_value, digits_value}
 
 grows : (base value b : ℕ) → 1 ≤ base → value ≤ with_digit base value b
 grows base value b h = by (b == 95)

@@ -1,8 +1,8 @@
 -- The steps over the fixed bytes of a text.
 use Rattle.std.proofs.Common.{◌≡◌, ℕ, ◌+◌, ◌-◌, ◌≤◌, List, false, suc, refl, arith}
 use Rattle.std.specs.Prelude.{◌==◌, ◌&&◌, not, slice_index}
-use Rattle.stan_base.specs.model.PhpTexts.{is_escaped}
-use Rattle.stan_base.proofs.PhpRunLemmas.{run_end_past, run_end_stops, run_end_goes_on}
+use Rattle.stan_model_grammar.specs.Texts.{is_escaped}
+use Rattle.stan_lexer.proofs.RunEndLemmas.{run_end_past, run_end_stops, run_end_goes_on}
 
 module _ (source : List ℕ) (from to : ℕ) where
   -- whether the next byte is escaped

@@ -4,14 +4,14 @@ use Rattle.std.specs.Prelude.{nat_eq, nat_lt, ◌&&◌, slice_index}
 use Rattle.std.specs.List.{starts_with, list_all}
 use Rattle.std.proofs.lemmas.Bool.{false≢true}
 use borrow.Author.Tests.{ltb-true}
-use Rattle.stan_base.specs.model.PhpMarks.{mark_among, mark, marks}
+use Rattle.stan_model_grammar.specs.Marks.{mark_among, mark, marks}
 use Rattle.std.specs.Str.{bytes_eq}
 use Rattle.std.specs.Cmp.Lexicographic.{bytes_decides}
 use Rattle.std.specs.Borrow.{Bor}
-use Rattle.stan_base.specs.declared.php.TokenKind.{TokenKind}
+use Rattle.stan_model_grammar.specs.declared.token.TokenKind.{TokenKind}
 use Rattle.stan_lexer.specs.Tables.{row_of}
-use Rattle.stan_base.specs.model.Bytes.{fold_case}
-use Rattle.stan_base.specs.model.PhpWords.{kind_among}
+use Rattle.stan_base.specs.Bytes.{fold_case}
+use Rattle.stan_model_grammar.specs.Words.{kind_among}
 
 not_true : (b : Bool) → (b ≡ true → ⊥) → b ≡ false
 not_true true h = absurd (h refl)

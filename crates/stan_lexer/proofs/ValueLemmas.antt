@@ -2,7 +2,7 @@
 use Rattle.std.proofs.Common.{◌≡◌, ℕ, ◌+◌, ◌<◌, zero, suc, List, [], ◌∷◌, ◌++◌, Bool, true, false, length, drop, get_or, refl, sym, ap, ◌∙◌, add-one, drop-cons, arith}
 use Rattle.std.specs.Prelude.{◌==◌}
 use Rattle.std.proofs.lemmas.List.{drop-drop}
-use Rattle.stan_base.specs.model.PhpValues.{escape, resolved, body_lines}
+use Rattle.stan_model_grammar.specs.Values.{escape, resolved, body_lines}
 
 module _ (quoted : Bool) where
   -- Bytes that belong to an escape are passed over.

@@ -1,6 +1,6 @@
 -- The bases of integers.
 use Rattle.std.specs.Prelude.{ℕ, Bool}
-use Rattle.stan_base.specs.model.PhpBytes.{is_digit, is_octal_digit, is_binary_digit, is_hexadecimal_digit}
+use Rattle.stan_model_grammar.specs.Runs.{is_digit, is_octal_digit, is_binary_digit, is_hexadecimal_digit}
 use Rattle.stan_lexer.specs.declared.bases.Base.{Base}
 use Rattle.stan_lexer.specs.declared.bases.Base.TheVariants as bases
 

@@ -1,7 +1,7 @@
 -- Lexemes that are being joined.
 use Rattle.std.specs.Prelude.{List, ◌++◌}
-use Rattle.stan_base.specs.declared.php.Token.{Token}
-use Rattle.stan_base.specs.model.PhpTokens.{joined}
+use Rattle.stan_model_grammar.specs.declared.token.Token.{Token}
+use Rattle.stan_model_grammar.specs.Tokens.{joined}
 use Rattle.stan_lexer.specs.declared.joined.Joiner.{Joiner}
 
 -- the tokens that a joiner has when the rest is joined too

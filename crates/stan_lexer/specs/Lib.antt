@@ -1,5 +1,6 @@
 pub mod Bases
 pub mod Joined
+pub mod Laws
 pub mod Quotes
 pub mod Runs
 pub mod Tables

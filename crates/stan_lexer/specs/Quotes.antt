@@ -1,6 +1,6 @@
 -- The fixed bytes of a text.
 use Rattle.std.specs.Prelude.{ℕ, ◌-◌, ◌==◌, ◌||◌, ◌&&◌, not, Bool, List, slice_index}
-use Rattle.stan_base.specs.model.PhpTexts.{is_escaped, begins_wrong_escape, begins_insertion}
+use Rattle.stan_model_grammar.specs.Texts.{is_escaped, begins_wrong_escape, begins_insertion}
 use Rattle.stan_lexer.specs.declared.quotes.Quote.{Quote}
 use Rattle.stan_lexer.specs.declared.quotes.Quote.TheVariants as quotes
 

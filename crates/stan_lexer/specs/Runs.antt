@@ -1,8 +1,8 @@
 -- What the places of a run hold.
 use Rattle.std.specs.Prelude.{ℕ, Bool, List, slice_range}
-use Rattle.stan_base.specs.declared.php.TokenKind.{TokenKind}
-use Rattle.stan_base.specs.model.PhpNumbers.{integer_kind}
-use Rattle.stan_base.specs.model.PhpBytes.{run_end, blank_at, space_at, word_at, name_at, digit_at, hexadecimal_at, line_at, remark_at, comment_at}
+use Rattle.stan_model_grammar.specs.declared.token.TokenKind.{TokenKind}
+use Rattle.stan_model_grammar.specs.Numbers.{integer_kind}
+use Rattle.stan_model_grammar.specs.Runs.{run_end, blank_at, space_at, word_at, name_at, digit_at, hexadecimal_at, line_at, remark_at, comment_at}
 use Rattle.stan_lexer.specs.Bases.{is_digit_in, radix}
 use Rattle.stan_lexer.specs.declared.bases.Base.{Base}
 use Rattle.stan_lexer.specs.declared.runs.Run.{Run}

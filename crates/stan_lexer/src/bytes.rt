@@ -1,8 +1,8 @@
 //! Single bytes of a source. Past its end stands 0, which belongs to nothing.
 
 ghost use Rattle.std.specs.Prelude.{◌≡◌, ◌<◌, length, slice_index};
-ghost use Rattle.stan_base.specs.model.Bytes.{is_blank, begins_identifier, continues_identifier};
-ghost use Rattle.stan_base.specs.model.PhpBytes.{is_digit, is_octal_digit, is_binary_digit, is_hexadecimal_digit, is_space};
+ghost use Rattle.stan_base.specs.Bytes.{is_blank, begins_identifier, continues_identifier};
+ghost use Rattle.stan_model_grammar.specs.Runs.{is_digit, is_octal_digit, is_binary_digit, is_hexadecimal_digit, is_space};
 
 /// The byte at a place, or 0 past the end.
 pub fn byte_at(source: &[u8], at: usize) -> u8

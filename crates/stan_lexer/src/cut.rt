@@ -1,9 +1,9 @@
 //! The first text that doesn't end.
 
 ghost use Rattle.std.specs.Prelude.{◌≡◌, ◌<◌, ◌^◌, length, MatchOption};
-ghost use Rattle.stan_base.specs.model.PhpTokens.{is_text_start, is_text_end, texts_behind, open_texts, IsOpenText};
+ghost use Rattle.stan_model_grammar.specs.Tokens.{is_text_start, is_text_end, texts_behind, open_texts, IsOpenText};
 
-use stan_base::php::{Token, TokenKind};
+use stan_model_grammar::token::{Token, TokenKind};
 
 fn is_text_start(kind: TokenKind) -> bool
     ensures { result ≡ is_text_start kind }

@@ -1,9 +1,9 @@
 //! Escapes of texts.
 
 ghost use Rattle.std.specs.Prelude.{◌≡◌, ◌+◌, ◌-◌, ◌≤◌, ◌<◌, ◌++◌, ◌∷◌, [], Bool, false, List, ℕ, OnOk, IfOk, IsTrue, length, slice_index};
-ghost use Rattle.stan_base.specs.model.PhpBytes.{is_octal_digit, is_hexadecimal_digit, digits_value};
-ghost use Rattle.stan_base.specs.model.PhpTexts.{is_code_point};
-ghost use Rattle.stan_base.specs.model.PhpValues.{utf8, letter_escape, octal_escape, hexadecimal_escape, code_point_escape, begins_hexadecimal, begins_code_point, escape, resolved, single_resolved, unindented};
+ghost use Rattle.stan_model_grammar.specs.Runs.{is_octal_digit, is_hexadecimal_digit, digits_value};
+ghost use Rattle.stan_model_grammar.specs.Texts.{is_code_point};
+ghost use Rattle.stan_model_grammar.specs.Values.{utf8, letter_escape, octal_escape, hexadecimal_escape, code_point_escape, begins_hexadecimal, begins_code_point, escape, resolved, single_resolved, unindented};
 
 use crate::bytes::{byte_at, is_hexadecimal_digit, is_octal_digit, is_space};
 use crate::numbers::{digit_value, value};
@@ -103,7 +103,7 @@ fn code_point(digits: &[u8]) -> u64
 }
 
 // Adds the code point of `u{`, hexadecimal digits and `}`, and gives how many bytes these are.
-#[tactic(auto, unfolding(stan_base::specs::model::PhpTexts::is_code_point))]
+#[tactic(auto, unfolding(stan_model_grammar::specs::Texts::is_code_point))]
 fn push_code_point(out: &mut Vec<u8>, rest: &[u8]) -> Result<usize, OutOfMemory>
     requires point { IsTrue (is_code_point rest.now 2) }
     requires within { 2 ≤ length rest.now }
@@ -130,7 +130,7 @@ fn begins_code_point(rest: &[u8]) -> bool
 }
 
 // Adds what the bytes behind a `\` mean with it, and gives how many of them belong to it.
-#[tactic(auto, unfolding(stan_base::specs::model::PhpValues::escape))]
+#[tactic(auto, unfolding(stan_model_grammar::specs::Values::escape))]
 fn push_escape(out: &mut Vec<u8>, rest: &[u8], quoted: bool) -> Result<usize, OutOfMemory>
     ensures value { IfOk result (λ used. (out.new.items ≡ out.old.items ++ (escape quoted rest.now).0) × (used ≡ (escape quoted rest.now).1)) }
     ensures within { IfOk result (λ used. used ≤ length rest.now) }

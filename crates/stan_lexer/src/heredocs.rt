@@ -2,13 +2,13 @@
 
 ghost use Rattle.std.specs.Prelude.{◌≡◌, ◌+◌, ◌-◌, ◌≤◌, ◌<◌, ◌^◌, length, max, min, IsTrue, slice_index, if◌then◌else◌};
 ghost use Rattle.std.specs.Prelude.{◌==◌};
-ghost use Rattle.stan_base.specs.model.PhpBytes.{run_end, space_at, line_at};
-ghost use Rattle.stan_base.specs.model.PhpHeredocs.{is_quote, head_blanks_end, label_quote, label_start, label_end, label, head_end, has_line_end, begins_heredoc, body_start, line_closes, closes, body_end, is_fixed, heredoc};
+ghost use Rattle.stan_model_grammar.specs.Runs.{run_end, space_at, line_at};
+ghost use Rattle.stan_model_grammar.specs.Heredocs.{is_quote, head_blanks_end, label_quote, label_start, label_end, label, head_end, has_line_end, begins_heredoc, body_start, line_closes, closes, body_end, is_fixed, heredoc};
 
 use crate::bytes::{begins_identifier, byte_at, continues_identifier};
 use crate::quotes::{Quote, fixed_end};
 use crate::runs::{Run, run_end};
-use stan_base::php::TokenKind;
+use stan_model_grammar::token::TokenKind;
 
 fn is_quote(byte: u8) -> bool
     ensures { result ≡ is_quote byte }
@@ -17,7 +17,7 @@ fn is_quote(byte: u8) -> bool
 }
 
 // The place behind `<<<` and blanks.
-#[tactic(auto, unfolding(stan_base::specs::model::PhpHeredocs::head_blanks_end))]
+#[tactic(auto, unfolding(stan_model_grammar::specs::Heredocs::head_blanks_end))]
 fn head_blanks_end(source: &[u8], at: usize) -> usize
     requires { at < length source.now }
     ensures value { result ≡ head_blanks_end source.now at }
@@ -28,7 +28,7 @@ fn head_blanks_end(source: &[u8], at: usize) -> usize
 }
 
 /// The first byte of the label.
-#[tactic(auto, unfolding(stan_base::specs::model::PhpHeredocs::label_start))]
+#[tactic(auto, unfolding(stan_model_grammar::specs::Heredocs::label_start))]
 pub fn label_start(source: &[u8], at: usize) -> usize
     requires { at < length source.now }
     ensures value { result ≡ label_start source.now at }
@@ -44,7 +44,7 @@ pub fn label_start(source: &[u8], at: usize) -> usize
 }
 
 /// The place behind the label.
-#[tactic(auto, unfolding(stan_base::specs::model::PhpHeredocs::label_end))]
+#[tactic(auto, unfolding(stan_model_grammar::specs::Heredocs::label_end))]
 pub fn label_end(source: &[u8], at: usize) -> usize
     requires { at < length source.now }
     ensures value { result ≡ label_end source.now at }
@@ -56,7 +56,7 @@ pub fn label_end(source: &[u8], at: usize) -> usize
 }
 
 // The place behind the label and its quote.
-#[tactic(auto, unfolding(stan_base::specs::model::PhpHeredocs::head_end))]
+#[tactic(auto, unfolding(stan_model_grammar::specs::Heredocs::head_end))]
 fn head_end(source: &[u8], at: usize) -> usize
     requires { at < length source.now }
     ensures value { result ≡ head_end source.now at }
@@ -81,7 +81,7 @@ fn has_line_end(source: &[u8], at: usize) -> bool
 }
 
 /// Whether the first line of a heredoc or a nowdoc begins there.
-#[tactic(auto, unfolding(stan_base::specs::model::PhpHeredocs::body_start))]
+#[tactic(auto, unfolding(stan_model_grammar::specs::Heredocs::body_start))]
 pub fn begins_heredoc(source: &[u8], at: usize) -> bool
     requires { at < length source.now }
     ensures value { result ≡ begins_heredoc source.now at }
@@ -99,7 +99,7 @@ pub fn begins_heredoc(source: &[u8], at: usize) -> bool
 }
 
 /// The first byte behind the first line.
-#[tactic(auto, unfolding(stan_base::specs::model::PhpHeredocs::body_start))]
+#[tactic(auto, unfolding(stan_model_grammar::specs::Heredocs::body_start))]
 pub fn body_start(source: &[u8], at: usize) -> usize
     requires { at < length source.now }
     ensures value { result ≡ body_start source.now at }
@@ -114,7 +114,7 @@ pub fn body_start(source: &[u8], at: usize) -> usize
 }
 
 // Whether a line that begins there is the last one of the body that the label ends.
-#[tactic(auto, unfolding(stan_base::specs::model::PhpHeredocs::line_closes))]
+#[tactic(auto, unfolding(stan_model_grammar::specs::Heredocs::line_closes))]
 fn line_closes(source: &[u8], label: &[u8], at: usize) -> bool
     requires { at ≤ length source.now }
     ensures value { result ≡ line_closes source.now label.now at }
@@ -134,7 +134,7 @@ fn next_line(source: &[u8], at: usize) -> usize
 }
 
 /// The beginning of the line that ends a body, or the end of the source.
-#[tactic(auto, unfolding(stan_base::specs::model::PhpHeredocs::body_end))]
+#[tactic(auto, unfolding(stan_model_grammar::specs::Heredocs::body_end))]
 pub fn body_end(source: &[u8], label: &[u8], body: usize) -> usize
     requires { body ≤ length source.now }
     ensures value { result ≡ body_end source.now label.now body }
@@ -150,7 +150,7 @@ pub fn body_end(source: &[u8], label: &[u8], body: usize) -> usize
 }
 
 // Whether nothing is inserted into a body, and no escape in it is wrong.
-#[tactic(auto, unfolding(stan_base::specs::model::PhpHeredocs::is_fixed))]
+#[tactic(auto, unfolding(stan_model_grammar::specs::Heredocs::is_fixed))]
 fn is_fixed(source: &[u8], body: usize, to: usize) -> bool
     requires { to ≤ length source.now }
     ensures { result ≡ is_fixed source.now body to }
@@ -160,7 +160,7 @@ fn is_fixed(source: &[u8], body: usize, to: usize) -> bool
 
 /// The heredoc or nowdoc at a place, by its kind and its end. Where none begins, without an end, or with something inserted, it is
 /// `Bad`.
-#[tactic(auto, unfolding(stan_base::specs::model::PhpHeredocs::heredoc))]
+#[tactic(auto, unfolding(stan_model_grammar::specs::Heredocs::heredoc))]
 pub fn heredoc(source: &[u8], at: usize) -> (TokenKind, usize)
     requires { at < length source.now }
     ensures value { result ≡ heredoc source.now at }

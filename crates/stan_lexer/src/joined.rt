@@ -1,12 +1,13 @@
 //! Attributes joined to one token each, and keywords that are names.
 
 ghost use Rattle.std.specs.Prelude.{◌≡◌, ◌+◌, ◌<◌, ◌≤◌, ◌^◌, List, ◌∷◌, None, length, OnOk, IfOk, IfSome};
-ghost use Rattle.stan_base.specs.declared.php.Token as token;
-ghost use Rattle.stan_base.specs.model.PhpTokens.{is_attribute_start, is_attribute_end, is_comment, is_arrow, is_double_colon, is_class, is_keyword, renames, renamed, joined};
+ghost use Rattle.stan_model_grammar.specs.declared.token.Token as token;
+ghost use Rattle.stan_model_grammar.specs.Tokens.{is_attribute_start, is_attribute_end, is_comment, is_arrow, is_double_colon, is_class, renames, renamed, joined};
 ghost use Rattle.stan_lexer.specs.Joined.{joined_behind};
 
 use stan_base::OutOfMemory;
-use stan_base::php::{Token, TokenKind};
+use stan_model_grammar::keyword::is_keyword;
+use stan_model_grammar::token::{Token, TokenKind};
 use std::alloc::Global;
 
 fn is_attribute_start(kind: TokenKind) -> bool
@@ -43,78 +44,6 @@ fn is_class(kind: TokenKind) -> bool
     ensures { result ≡ is_class kind }
 {
     matches!(kind, TokenKind::Class)
-}
-
-/// Whether the token is one of the reserved words.
-pub fn is_keyword(kind: TokenKind) -> bool
-    ensures { result ≡ is_keyword kind }
-{
-    matches!(
-        kind,
-        TokenKind::Abstract
-            | TokenKind::And
-            | TokenKind::Array
-            | TokenKind::As
-            | TokenKind::Break
-            | TokenKind::Callable
-            | TokenKind::Case
-            | TokenKind::Catch
-            | TokenKind::Class
-            | TokenKind::Clone
-            | TokenKind::Const
-            | TokenKind::Continue
-            | TokenKind::Declare
-            | TokenKind::Default
-            | TokenKind::Die
-            | TokenKind::Do
-            | TokenKind::Echo
-            | TokenKind::Else
-            | TokenKind::ElseIf
-            | TokenKind::Empty
-            | TokenKind::Eval
-            | TokenKind::Exit
-            | TokenKind::Extends
-            | TokenKind::Final
-            | TokenKind::Finally
-            | TokenKind::Fn
-            | TokenKind::For
-            | TokenKind::ForEach
-            | TokenKind::Function
-            | TokenKind::Global
-            | TokenKind::Goto
-            | TokenKind::If
-            | TokenKind::Implements
-            | TokenKind::Include
-            | TokenKind::IncludeOnce
-            | TokenKind::InstanceOf
-            | TokenKind::InsteadOf
-            | TokenKind::Interface
-            | TokenKind::IsSet
-            | TokenKind::List
-            | TokenKind::Match
-            | TokenKind::Namespace
-            | TokenKind::New
-            | TokenKind::Or
-            | TokenKind::Print
-            | TokenKind::Private
-            | TokenKind::Protected
-            | TokenKind::Public
-            | TokenKind::Require
-            | TokenKind::RequireOnce
-            | TokenKind::Return
-            | TokenKind::Static
-            | TokenKind::Switch
-            | TokenKind::Throw
-            | TokenKind::Trait
-            | TokenKind::Try
-            | TokenKind::Unset
-            | TokenKind::Use
-            | TokenKind::Var
-            | TokenKind::While
-            | TokenKind::Xor
-            | TokenKind::Yield
-            | TokenKind::HaltCompiler
-    )
 }
 
 // A token behind one of the kind `before`: there a keyword may be a name.

@@ -1,11 +1,11 @@
 //! The lexemes of a source: its tokens before attributes are joined.
 
 ghost use Rattle.std.specs.Prelude.{◌≡◌, ◌≤◌, ◌<◌, ◌^◌, length, [], OnOk, IfOk};
-ghost use Rattle.stan_base.specs.model.PhpTokens.{top, open_behind, is_bad, AreLexemes};
+ghost use Rattle.stan_model_grammar.specs.Tokens.{top, open_behind, is_bad, AreLexemes};
 
 use crate::tokens::{is_in_brace, is_in_bracket, lexeme, next_start};
 use stan_base::OutOfMemory;
-use stan_base::php::{Opening, Token, TokenKind};
+use stan_model_grammar::token::{Opening, Token, TokenKind};
 use std::alloc::Global;
 
 // The innermost of what is open.

@@ -2,7 +2,7 @@
 
 ghost use Rattle.std.specs.Prelude.{◌≡◌, ◌≤◌, ◌<◌, ◌^◌, length, IfOk};
 ghost use Rattle.std.specs.Str.{IsUtf8};
-ghost use Rattle.stan_base.specs.model.PhpTokens.{AreTokens, IsCut};
+ghost use Rattle.stan_model_grammar.specs.Tokens.{AreTokens, IsCut};
 
 use crate::cut::open_text;
 use crate::joined::joined;

@@ -1,4 +1,4 @@
-//! The tokens of PHP source, exactly those that `stan_base` defines (`specs/model/PhpTokens.antt`).
+//! The tokens of PHP source, exactly those that `stan_model_grammar` defines (`specs/Tokens.antt`).
 #![tactic(auto)]
 
 mod bases;
@@ -7,6 +7,7 @@ mod cut;
 mod escapes;
 mod heredocs;
 mod joined;
+pub mod laws;
 mod lexemes;
 mod lexer;
 mod marks;
@@ -23,8 +24,7 @@ mod tokens;
 mod values;
 mod words;
 
-pub use joined::is_keyword;
 pub use lexer::lex;
 pub use parts::{code_tokens, comments};
-pub use stan_base::php::{Token, TokenKind};
+pub use stan_model_grammar::token::{Token, TokenKind};
 pub use values::{integer_value, text_value};

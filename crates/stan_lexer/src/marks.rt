@@ -2,13 +2,13 @@
 
 ghost use Rattle.std.specs.Prelude.{◌≡◌, ◌≤◌, ◌<◌, ◌^◌, nat_eq, length, map, IsTrue};
 ghost use Rattle.std.specs.List.{starts_with};
-ghost use Rattle.stan_base.specs.model.PhpMarks.{begins_remark, begins_comment, comment, is_identifier, parenthesis, begins_closing, closing, mark_among, mark};
+ghost use Rattle.stan_model_grammar.specs.Marks.{begins_remark, begins_comment, comment, is_identifier, parenthesis, begins_closing, closing, mark_among, mark};
 ghost use Rattle.stan_lexer.specs.Tables.{row_of};
 
 use crate::bytes::{byte_at, is_blank};
 use crate::runs::{Run, run_end};
 use crate::words::kind_among;
-use stan_base::php::{CASTS, MARKS, TokenKind};
+use stan_model_grammar::token::{CASTS, MARKS, TokenKind};
 
 pub fn begins_remark(source: &[u8], at: usize) -> bool
     requires { at < 2 ^ 63 }
@@ -27,7 +27,7 @@ pub fn begins_comment(source: &[u8], at: usize) -> bool
 }
 
 /// The comment at a place, up to its `*/`, by its kind and its end. Without an end it is `Bad`.
-#[tactic(auto, unfolding(stan_base::specs::model::PhpMarks::comment))]
+#[tactic(auto, unfolding(stan_model_grammar::specs::Marks::comment))]
 pub fn comment(source: &[u8], at: usize) -> (TokenKind, usize)
     requires { at < length source.now }
     ensures value { result ≡ comment source.now at }
@@ -52,7 +52,7 @@ fn is_identifier(kind: TokenKind) -> bool
 }
 
 /// The cast at a place, or its `(` alone, by its kind and its end.
-#[tactic(auto, unfolding(stan_base::specs::model::PhpMarks::parenthesis, stan_base::specs::model::PhpMarks::casts))]
+#[tactic(auto, unfolding(stan_model_grammar::specs::Marks::parenthesis, stan_model_grammar::specs::Marks::casts))]
 pub fn parenthesis(source: &[u8], at: usize) -> (TokenKind, usize)
     requires { at < length source.now }
     ensures value { result ≡ parenthesis source.now at }
@@ -78,7 +78,7 @@ pub fn begins_closing(source: &[u8], at: usize) -> bool
 }
 
 /// The last `?>`, with nothing or one line end behind it, by its kind and its end. Another one is `Bad`.
-#[tactic(auto, unfolding(stan_base::specs::model::PhpMarks::closing))]
+#[tactic(auto, unfolding(stan_model_grammar::specs::Marks::closing))]
 pub fn closing(source: &[u8], at: usize) -> (TokenKind, usize)
     requires within { at < length source.now }
     requires begins { IsTrue (begins_closing source.now at) }
@@ -124,7 +124,7 @@ fn mark_among(rows: &[(&str, TokenKind)], source: &[u8], at: usize) -> (TokenKin
 }
 
 /// The longest operator or mark at a place, by its kind and its end. Where none stands it is `Bad`.
-#[tactic(auto, using(crate::proofs::TableLemmas::mark_rises), unfolding(stan_base::specs::model::PhpMarks::mark, stan_base::specs::model::PhpMarks::marks))]
+#[tactic(auto, using(crate::proofs::TableLemmas::mark_rises), unfolding(stan_model_grammar::specs::Marks::mark, stan_model_grammar::specs::Marks::marks))]
 pub fn mark(source: &[u8], at: usize) -> (TokenKind, usize)
     requires { at < length source.now }
     ensures value { result ≡ mark source.now at }

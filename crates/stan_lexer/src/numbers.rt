@@ -1,15 +1,15 @@
 //! Numbers: the longest that fits.
 
 ghost use Rattle.std.specs.Prelude.{◌≡◌, ◌≤◌, ◌<◌, ◌+◌, ◌*◌, ◌^◌, length, IsTrue, MatchOption, slice_index, slice_range};
-ghost use Rattle.stan_base.specs.model.PhpBytes.{is_digit, is_hexadecimal_digit, digit_value, with_digit, digits_value};
-ghost use Rattle.stan_base.specs.model.PhpNumbers.{integer_kind, has_prefix, integer, fraction_end, exponent_end, begins_number, number};
+ghost use Rattle.stan_model_grammar.specs.Runs.{is_digit, is_hexadecimal_digit, digit_value, with_digit, digits_value};
+ghost use Rattle.stan_model_grammar.specs.Numbers.{integer_kind, has_prefix, integer, fraction_end, exponent_end, begins_number, number};
 ghost use Rattle.stan_lexer.specs.Bases.{is_digit_in};
 ghost use Rattle.stan_lexer.specs.Runs.{digits_of};
 
 use crate::bases::{Base, is_digit_in, radix};
 use crate::bytes::{byte_at, is_digit};
 use crate::runs::{Run, run_end};
-use stan_base::php::TokenKind;
+use stan_model_grammar::token::TokenKind;
 
 /// The greatest integer.
 pub const GREATEST: u64 = 9223372036854775807;
@@ -40,7 +40,7 @@ fn with_digit(base: u64, value: u64, byte: u8) -> Option<u64>
 }
 
 /// The value of digits in a base, in which `_` means nothing. None past the greatest integer.
-#[tactic(auto, using(crate::proofs::NumberLemmas::value_steps), unfolding(stan_base::specs::model::PhpBytes::digits_value))]
+#[tactic(auto, using(crate::proofs::NumberLemmas::value_steps), unfolding(stan_model_grammar::specs::Runs::digits_value))]
 pub fn value(base: u64, digits: &[u8]) -> Option<u64>
     requires { 1 ≤ base }
     ensures { MatchOption result (GREATEST < digits_value base digits.now) (λ v. (v ≡ digits_value base digits.now) × (v ≤ GREATEST)) }
@@ -91,7 +91,7 @@ fn digits(source: &[u8], base: Base, from: usize) -> (TokenKind, usize)
 }
 
 // The longest integer that begins with a digit, by its kind and its end.
-#[tactic(auto, using(stan_base::proofs::PhpRunLemmas::run_end_begins), unfolding(stan_base::specs::model::PhpNumbers::integer))]
+#[tactic(auto, using(stan_lexer::proofs::RunEndLemmas::run_end_begins), unfolding(stan_model_grammar::specs::Numbers::integer))]
 fn integer(source: &[u8], at: usize) -> (TokenKind, usize)
     requires within { at < length source.now }
     requires digit { IsTrue (is_digit (slice_index source.now at)) }
@@ -111,7 +111,7 @@ fn integer(source: &[u8], at: usize) -> (TokenKind, usize)
 }
 
 // The end of the point and the digits behind it that stand at a place, or the place.
-#[tactic(auto, unfolding(stan_base::specs::model::PhpNumbers::fraction_end))]
+#[tactic(auto, unfolding(stan_model_grammar::specs::Numbers::fraction_end))]
 fn fraction_end(source: &[u8], at: usize) -> usize
     requires { at ≤ length source.now }
     ensures value { result ≡ fraction_end source.now at }
@@ -128,7 +128,7 @@ fn fraction_end(source: &[u8], at: usize) -> usize
 }
 
 // The end of the exponent that stands at a place, or the place.
-#[tactic(auto, unfolding(stan_base::specs::model::PhpNumbers::exponent_end))]
+#[tactic(auto, unfolding(stan_model_grammar::specs::Numbers::exponent_end))]
 fn exponent_end(source: &[u8], at: usize) -> usize
     requires { at ≤ length source.now }
     ensures value { result ≡ exponent_end source.now at }
@@ -162,7 +162,7 @@ pub fn begins_number(source: &[u8], at: usize) -> bool
 }
 
 /// The longest number that begins at a place, by its kind and its end.
-#[tactic(auto, unfolding(stan_base::specs::model::PhpNumbers::number))]
+#[tactic(auto, unfolding(stan_model_grammar::specs::Numbers::number))]
 pub fn number(source: &[u8], at: usize) -> (TokenKind, usize)
     requires within { at < length source.now }
     requires begins { IsTrue (begins_number source.now at) }

@@ -1,13 +1,13 @@
 //! The opening tag.
 
 ghost use Rattle.std.specs.Prelude.{◌≡◌, ◌+◌, ◌≤◌, ◌<◌, ◌^◌, length, max, IsTrue};
-ghost use Rattle.stan_base.specs.model.PhpTokens.{opening_start, has_opening};
+ghost use Rattle.stan_model_grammar.specs.Tokens.{opening_start, has_opening};
 
 use crate::bytes::{byte_at, is_blank};
 use crate::runs::{Run, run_end};
 
 /// The place behind a first line that begins with `#!`.
-#[tactic(auto, unfolding(stan_base::specs::model::PhpTokens::opening_start))]
+#[tactic(auto, unfolding(stan_model_grammar::specs::Tokens::opening_start))]
 pub fn opening_start(source: &[u8]) -> usize
     ensures value { result ≡ opening_start source.now }
     ensures within { result ≤ length source.now + 1 }
@@ -20,7 +20,7 @@ pub fn opening_start(source: &[u8]) -> usize
 }
 
 /// Whether `<?php` stands there, with a blank or the end behind it.
-#[tactic(auto, unfolding(stan_base::specs::model::PhpTokens::has_opening))]
+#[tactic(auto, unfolding(stan_model_grammar::specs::Tokens::has_opening))]
 pub fn has_opening(source: &[u8]) -> bool
     ensures value { result ≡ has_opening source.now }
     ensures within { IsTrue result → opening_start source.now + 5 ≤ length source.now }

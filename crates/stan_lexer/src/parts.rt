@@ -1,11 +1,11 @@
 //! The tokens that the grammar reads, and the comments between them.
 
 ghost use Rattle.std.specs.Prelude.{◌≡◌, IfOk};
-ghost use Rattle.stan_base.specs.model.PhpTokens.{is_code, code_tokens, comments};
+ghost use Rattle.stan_model_grammar.specs.Tokens.{is_code, code_tokens, comments};
 
 use crate::joined::is_comment;
 use stan_base::OutOfMemory;
-use stan_base::php::{Token, TokenKind};
+use stan_model_grammar::token::{Token, TokenKind};
 use std::alloc::Global;
 
 fn is_code(kind: TokenKind) -> bool

@@ -1,19 +1,19 @@
 //! Texts in quotes, and the insertions of those in `"`.
 
 ghost use Rattle.std.specs.Prelude.{◌≡◌, ◌+◌, ◌≤◌, ◌<◌, ◌^◌, length, max, slice_index, Bool, IsTrue};
-ghost use Rattle.stan_base.specs.model.PhpBytes.{run_end};
-ghost use Rattle.stan_base.specs.model.PhpWords.{begins_variable};
-ghost use Rattle.stan_base.specs.model.PhpTexts.{is_code_point, begins_wrong_escape, begins_insertion, is_integer, integer_end, index_end, has_index, has_property, inserted, single_quoted, double_quoted, piece, text_token};
+ghost use Rattle.stan_model_grammar.specs.Runs.{run_end};
+ghost use Rattle.stan_model_grammar.specs.Words.{begins_variable};
+ghost use Rattle.stan_model_grammar.specs.Texts.{is_code_point, begins_wrong_escape, begins_insertion, is_integer, integer_end, index_end, has_index, has_property, inserted, single_quoted, double_quoted, piece, text_token};
 ghost use Rattle.stan_lexer.specs.Quotes.{fixed, fixed_from};
 
 use crate::bytes::{begins_identifier, byte_at, is_digit};
 use crate::numbers::{number, value};
 use crate::runs::{Run, run_end};
 use crate::words::begins_variable;
-use stan_base::php::TokenKind;
+use stan_model_grammar::token::TokenKind;
 
 /// Whether hexadecimal digits of a number up to 10FFFF stand there, with a `}` behind them.
-#[tactic(auto, unfolding(stan_base::specs::model::PhpTexts::is_code_point))]
+#[tactic(auto, unfolding(stan_model_grammar::specs::Texts::is_code_point))]
 pub fn is_code_point(source: &[u8], from: usize) -> bool
     requires { from ≤ length source.now }
     ensures { result ≡ is_code_point source.now from }
@@ -101,7 +101,7 @@ fn is_integer(kind: TokenKind) -> bool
 }
 
 // The end of the integer at a place, or the place.
-#[tactic(auto, unfolding(stan_base::specs::model::PhpTexts::integer_end))]
+#[tactic(auto, unfolding(stan_model_grammar::specs::Texts::integer_end))]
 fn integer_end(source: &[u8], at: usize) -> usize
     requires { at ≤ length source.now }
     ensures value { result ≡ integer_end source.now at }
@@ -116,7 +116,7 @@ fn integer_end(source: &[u8], at: usize) -> usize
 }
 
 // The end of the index at a place, or the place.
-#[tactic(auto, unfolding(stan_base::specs::model::PhpTexts::index_end))]
+#[tactic(auto, unfolding(stan_model_grammar::specs::Texts::index_end))]
 fn index_end(source: &[u8], at: usize) -> usize
     requires { at ≤ length source.now }
     ensures { result ≡ index_end source.now at }
@@ -160,7 +160,7 @@ fn has_property(source: &[u8], at: usize) -> bool
 }
 
 // The longest insertion of the variable at a place, by its kind and its end.
-#[tactic(auto, unfolding(stan_base::specs::model::PhpTexts::inserted))]
+#[tactic(auto, unfolding(stan_model_grammar::specs::Texts::inserted))]
 fn inserted(source: &[u8], at: usize) -> (TokenKind, usize)
     requires { at < length source.now }
     ensures value { result ≡ inserted source.now at }
@@ -186,7 +186,7 @@ fn inserted(source: &[u8], at: usize) -> (TokenKind, usize)
 }
 
 /// The text in `'` at a place, by its kind and its end. Without an end it is `Bad`.
-#[tactic(auto, unfolding(stan_base::specs::model::PhpTexts::single_quoted))]
+#[tactic(auto, unfolding(stan_model_grammar::specs::Texts::single_quoted))]
 pub fn single_quoted(source: &[u8], at: usize) -> (TokenKind, usize)
     requires { at < length source.now }
     ensures value { result ≡ single_quoted source.now at }
@@ -202,7 +202,7 @@ pub fn single_quoted(source: &[u8], at: usize) -> (TokenKind, usize)
 }
 
 /// The text in `"` at a place, or the quote of one with insertions, by its kind and its end. Without an end it is `Bad`.
-#[tactic(auto, unfolding(stan_base::specs::model::PhpTexts::double_quoted))]
+#[tactic(auto, unfolding(stan_model_grammar::specs::Texts::double_quoted))]
 pub fn double_quoted(source: &[u8], at: usize) -> (TokenKind, usize)
     requires { at < length source.now }
     ensures value { result ≡ double_quoted source.now at }
@@ -220,7 +220,7 @@ pub fn double_quoted(source: &[u8], at: usize) -> (TokenKind, usize)
 }
 
 // The fixed bytes at a place, by their kind and their end. Where none stand, or the text doesn't end, that is `Bad`.
-#[tactic(auto, unfolding(stan_base::specs::model::PhpTexts::piece))]
+#[tactic(auto, unfolding(stan_model_grammar::specs::Texts::piece))]
 fn piece(source: &[u8], at: usize) -> (TokenKind, usize)
     requires { at < length source.now }
     ensures value { result ≡ piece source.now at }
@@ -236,7 +236,7 @@ fn piece(source: &[u8], at: usize) -> (TokenKind, usize)
 }
 
 /// What stands at a place in a text with insertions, by its kind and its end.
-#[tactic(auto, unfolding(stan_base::specs::model::PhpTexts::text_token))]
+#[tactic(auto, unfolding(stan_model_grammar::specs::Texts::text_token))]
 pub fn text_token(source: &[u8], at: usize) -> (TokenKind, usize)
     requires { at < length source.now }
     ensures value { result ≡ text_token source.now at }

@@ -1,14 +1,14 @@
 //! Runs of places that pass one test.
 
 ghost use Rattle.std.specs.Prelude.{◌≡◌, ◌+◌, ◌≤◌, ◌<◌, ◌^◌, length, max};
-ghost use Rattle.stan_base.specs.model.PhpBytes.{run_end};
+ghost use Rattle.stan_model_grammar.specs.Runs.{run_end};
 ghost use Rattle.stan_lexer.specs.Runs.{passes};
 
 use crate::bases::{Base, is_digit_in};
 use crate::bytes::{
     begins_identifier, byte_at, continues_identifier, is_blank, is_hexadecimal_digit, is_space,
 };
-use stan_base::php::TokenKind;
+use stan_model_grammar::token::TokenKind;
 
 /// What the places of a run hold.
 #[derive(Clone, Copy)]

@@ -1,7 +1,7 @@
 //! The token at a place.
 
 ghost use Rattle.std.specs.Prelude.{◌≡◌, ◌+◌, ◌≤◌, ◌<◌, ◌^◌, length, IsTrue, slice_index, Option};
-ghost use Rattle.stan_base.specs.model.PhpTokens.{is_in_text, is_in_insertion, is_in_brace, is_in_bracket, begins_literal, literal, begins_attribute, begins_bound, bound, code_token, next_start, lexeme};
+ghost use Rattle.stan_model_grammar.specs.Tokens.{is_in_text, is_in_insertion, is_in_brace, is_in_bracket, begins_literal, literal, begins_attribute, begins_bound, bound, code_token, next_start, lexeme};
 
 use crate::bytes::byte_at;
 use crate::heredocs::{begins_heredoc, heredoc};
@@ -12,7 +12,7 @@ use crate::numbers::{begins_number, number};
 use crate::quotes::{double_quoted, single_quoted, text_token};
 use crate::runs::{Run, byte_and_run, run_end};
 use crate::words::{begins_name, begins_variable, name};
-use stan_base::php::{Opening, TokenKind};
+use stan_model_grammar::token::{Opening, TokenKind};
 
 pub fn is_in_text(top: Option<Opening>) -> bool
     ensures { result ≡ is_in_text top }
@@ -38,7 +38,7 @@ pub fn is_in_bracket(top: Option<Opening>) -> bool
     matches!(top, Some(Opening::Bracket))
 }
 
-#[tactic(auto, unfolding(stan_base::specs::model::PhpTokens::begins_literal))]
+#[tactic(auto, unfolding(stan_model_grammar::specs::Tokens::begins_literal))]
 fn begins_literal(source: &[u8], at: usize) -> bool
     requires { at < length source.now }
     ensures { result ≡ begins_literal source.now at }
@@ -53,7 +53,7 @@ fn begins_literal(source: &[u8], at: usize) -> bool
 }
 
 // The word, number or text at a place, by its kind and its end.
-#[tactic(auto, unfolding(stan_base::specs::model::PhpTokens::begins_literal, stan_base::specs::model::PhpTokens::literal, stan_base::specs::model::PhpWords::variable))]
+#[tactic(auto, unfolding(stan_model_grammar::specs::Tokens::begins_literal, stan_model_grammar::specs::Tokens::literal, stan_model_grammar::specs::Words::variable))]
 fn literal(source: &[u8], at: usize) -> (TokenKind, usize)
     requires within { at < length source.now }
     requires begins { IsTrue (begins_literal source.now at) }
@@ -86,7 +86,7 @@ fn begins_attribute(source: &[u8], at: usize) -> bool
 }
 
 // Whether a bracket there belongs to what is open.
-#[tactic(auto, unfolding(stan_base::specs::model::PhpTokens::begins_bound))]
+#[tactic(auto, unfolding(stan_model_grammar::specs::Tokens::begins_bound))]
 fn begins_bound(source: &[u8], top: Option<Opening>, at: usize) -> bool
     requires { at < length source.now }
     ensures value { result ≡ begins_bound source.now top at }
@@ -100,7 +100,7 @@ fn begins_bound(source: &[u8], top: Option<Opening>, at: usize) -> bool
 }
 
 // That bracket, by its kind and its end.
-#[tactic(auto, unfolding(stan_base::specs::model::PhpTokens::bound))]
+#[tactic(auto, unfolding(stan_model_grammar::specs::Tokens::bound))]
 fn bound(source: &[u8], at: usize) -> (TokenKind, usize)
     requires within { at < length source.now }
     requires attribute { slice_index source.now at ≡ 35 → at + 2 ≤ length source.now }
@@ -117,7 +117,7 @@ fn bound(source: &[u8], at: usize) -> (TokenKind, usize)
 }
 
 // The longest token at a place outside of texts, by its kind and its end.
-#[tactic(auto, unfolding(stan_base::specs::model::PhpTokens::code_token, stan_base::specs::model::PhpMarks::remark))]
+#[tactic(auto, unfolding(stan_model_grammar::specs::Tokens::code_token, stan_model_grammar::specs::Marks::remark))]
 fn code_token(source: &[u8], top: Option<Opening>, at: usize) -> (TokenKind, usize)
     requires { at < length source.now }
     ensures value { result ≡ code_token source.now top at }
@@ -142,7 +142,7 @@ fn code_token(source: &[u8], top: Option<Opening>, at: usize) -> (TokenKind, usi
 }
 
 /// Where the next token begins: blanks stand before it, but not in a text.
-#[tactic(auto, unfolding(stan_base::specs::model::PhpTokens::next_start))]
+#[tactic(auto, unfolding(stan_model_grammar::specs::Tokens::next_start))]
 pub fn next_start(source: &[u8], top: Option<Opening>, at: usize) -> usize
     requires { at ≤ length source.now }
     ensures value { result ≡ next_start source.now top at }
@@ -157,7 +157,7 @@ pub fn next_start(source: &[u8], top: Option<Opening>, at: usize) -> usize
 }
 
 /// The token at a place, by its kind and its end.
-#[tactic(auto, unfolding(stan_base::specs::model::PhpTokens::lexeme))]
+#[tactic(auto, unfolding(stan_model_grammar::specs::Tokens::lexeme))]
 pub fn lexeme(source: &[u8], top: Option<Opening>, at: usize) -> (TokenKind, usize)
     requires { at < length source.now }
     ensures value { result ≡ lexeme source.now top at }

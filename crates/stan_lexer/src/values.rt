@@ -1,7 +1,7 @@
 //! What integers and texts mean, by the bytes of their tokens.
 
 ghost use Rattle.std.specs.Prelude.{◌≡◌, ◌≤◌, ◌<◌, length, MatchOption, IfOk};
-ghost use Rattle.stan_base.specs.model.PhpValues.{integer_value, between_quotes, without_line_end, body_lines, text_value};
+ghost use Rattle.stan_model_grammar.specs.Values.{integer_value, between_quotes, without_line_end, body_lines, text_value};
 
 use crate::bases::Base;
 use crate::bytes::byte_at;
@@ -10,11 +10,11 @@ use crate::heredocs::{begins_heredoc, body_end, body_start, label_end, label_sta
 use crate::numbers::{has_prefix, value};
 use crate::runs::{Run, run_end};
 use stan_base::OutOfMemory;
-use stan_base::php::TokenKind;
+use stan_model_grammar::token::TokenKind;
 use std::alloc::Global;
 
 /// The value of the bytes of an integer. None past 9223372036854775807: they are a float.
-#[tactic(auto, unfolding(stan_base::specs::model::PhpValues::integer_value))]
+#[tactic(auto, unfolding(stan_model_grammar::specs::Values::integer_value))]
 pub fn integer_value(bytes: &[u8]) -> Option<u64>
     ensures { MatchOption result (9223372036854775807 < integer_value bytes.now) (λ v. (v ≡ integer_value bytes.now) × (v ≤ 9223372036854775807)) }
 {
@@ -55,7 +55,7 @@ fn without_line_end(bytes: &[u8]) -> &[u8]
 }
 
 // The lines of a heredoc or nowdoc, without the blanks of its last line.
-#[tactic(auto, unfolding(stan_base::specs::model::PhpValues::body_lines))]
+#[tactic(auto, unfolding(stan_model_grammar::specs::Values::body_lines))]
 fn body_lines(alloc: Global, bytes: &[u8]) -> Result<Vec<u8>, OutOfMemory>
     ensures { IfOk result (λ out. out.items ≡ body_lines bytes.now) }
 {

@@ -1,13 +1,13 @@
 //! Variables, identifiers, keywords and names.
 
 ghost use Rattle.std.specs.Prelude.{◌≡◌, ◌≤◌, ◌<◌, ◌^◌, length, map};
-ghost use Rattle.stan_base.specs.model.PhpWords.{kind_among, name_kind, begins_variable, begins_name, name};
+ghost use Rattle.stan_model_grammar.specs.Words.{kind_among, name_kind, begins_variable, begins_name, name};
 ghost use Rattle.stan_lexer.specs.Tables.{row_of};
 
 use crate::bytes::{begins_identifier, byte_at};
 use crate::runs::{Run, run_end};
 use stan_base::begins_relative;
-use stan_base::php::{KEYWORDS, TokenKind};
+use stan_model_grammar::token::{KEYWORDS, TokenKind};
 
 /// The kind that the rows give a word, which is compared without case, or that of an identifier.
 pub fn kind_among(rows: &[(&str, TokenKind)], word: &[u8]) -> TokenKind
@@ -21,7 +21,7 @@ pub fn kind_among(rows: &[(&str, TokenKind)], word: &[u8]) -> TokenKind
     TokenKind::Identifier
 }
 
-#[tactic(auto, unfolding(stan_base::specs::model::PhpWords::name_kind, stan_base::specs::model::PhpWords::keywords))]
+#[tactic(auto, unfolding(stan_model_grammar::specs::Words::name_kind, stan_model_grammar::specs::Words::keywords))]
 fn name_kind(name: &[u8]) -> TokenKind
     ensures { result ≡ name_kind name.now }
 {
@@ -52,7 +52,7 @@ pub fn begins_name(source: &[u8], at: usize) -> bool
 }
 
 /// The identifier, keyword or name with `\` at a place, by its kind and its end.
-#[tactic(auto, unfolding(stan_base::specs::model::PhpWords::name))]
+#[tactic(auto, unfolding(stan_model_grammar::specs::Words::name))]
 pub fn name(source: &[u8], at: usize) -> (TokenKind, usize)
     requires { at < length source.now }
     ensures value { result ≡ name source.now at }

@@ -12,7 +12,7 @@ use Rattle.std.specs.Ordering.{eq_by_cmp}
 use Rattle.std.specs.Cmp.Lexicographic.{slice_cmp}
 use Rattle.std.specs.FinMap as finite
 use Rattle.stan_outside.specs.Outside.{Lists, ArePaths, IsPath}
-use Rattle.stan_base.specs.model.Project.{parts_of, is_proper_part}
+use Rattle.stan_outside.specs.Contents.{parts_of, is_proper_part}
 use Rattle.stan_outside.specs.Memory.{AreFiles, AreRising, Rise, file_of, is_path, path_cmp, path_of, tree_contents}
 
 abbrev File : Type 0

@@ -1,4 +1,5 @@
 -- What the public contracts rest on.
+pub mod Contents
 pub mod Outside
 pub mod Memory
 pub mod MemoryTree

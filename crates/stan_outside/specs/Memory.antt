@@ -7,7 +7,7 @@ use Rattle.std.specs.Ordering.{nat_cmp}
 use Rattle.std.specs.declared.cmp.Ordering.{Ordering}
 use Rattle.std.specs.declared.cmp.Ordering.TheVariants.{Less}
 use Rattle.std.specs.declared.alloc.Global.{Global}
-use Rattle.stan_base.specs.model.Project.{Contents, is_proper_part, parts_of}
+use Rattle.stan_outside.specs.Contents.{Contents, is_proper_part, parts_of}
 use Rattle.stan_outside.specs.Outside.{ArePaths, IsPath}
 
 -- the path and the bytes of a file

@@ -1,5 +1,5 @@
 -- What a tree in memory shows.
-use Rattle.stan_base.specs.model.Project.{Contents}
+use Rattle.stan_outside.specs.Contents.{Contents}
 use Rattle.stan_outside.specs.declared.calls.Calls.{Calls}
 use Rattle.stan_outside.specs.declared.memory_tree.MemoryTree.{MemoryTree}
 use Rattle.stan_outside.specs.Memory.{tree_contents}

@@ -2,7 +2,7 @@
 use Rattle.std.specs.Prelude.{◌≡◌, ◌≢◌, ◌⊎◌, ℕ, ◌<◌, ◌^◌, ◌-◌, IsTrue, not, List, IsSome}
 use Rattle.std.specs.List.{Contains, AllPairs, list_all}
 use Rattle.std.specs.FinMap as finite
-use Rattle.stan_base.specs.model.Project.{Contents, parts_of, is_proper_part}
+use Rattle.stan_outside.specs.Contents.{Contents, parts_of, is_proper_part}
 use Rattle.std.specs.Str.{bytes_eq}
 use Rattle.std.specs.Prelude.{codes}
 

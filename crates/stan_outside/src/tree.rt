@@ -2,7 +2,7 @@
 
 ghost use Rattle.std.specs.Prelude.{◌≡◌, ◌≤◌, ◌↔◌, ℕ, IfOk, IfSome, IsSome, IsErrOf, map, take, string_bytes, vec_len};
 ghost use Rattle.std.specs.FinMap as finite;
-ghost use Rattle.stan_base.specs.model.Project.{Contents};
+ghost use Rattle.stan_outside.specs.Contents.{Contents};
 ghost use Rattle.stan_outside.specs.Outside.{Lists, Rose, ArePaths};
 ghost use Rattle.stan_outside.specs.declared.fail.Fail.TheVariants as fails;
 

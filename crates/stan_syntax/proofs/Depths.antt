@@ -2,11 +2,11 @@
 use Rattle.std.proofs.Common.{◌≡◌, ℕ, Bool, List, [], ◌∷◌, ◌++◌, ◌+◌, ◌<◌, max, length, get_or, take, refl, ap, sym, ◌∙◌, arith}
 use Rattle.std.specs.Prelude.{map}
 use Rattle.std.proofs.lemmas.List.{take_more}
-use Rattle.stan_base.specs.declared.operators.BinaryOperator.{BinaryOperator}
-use Rattle.stan_base.specs.model.PhpDepth.{depth, items_depth, item_depth, steps_depth, step_depth, statements_depth, statement_depth}
-use Rattle.stan_base.specs.model.PhpTrees as model
+use Rattle.stan_model_grammar.specs.declared.operators.BinaryOperator.{BinaryOperator}
+use Rattle.stan_model_grammar.specs.Depth.{depth, items_depth, item_depth, steps_depth, step_depth, statements_depth, statement_depth}
+use Rattle.stan_model_grammar.specs.Trees as model
 use Rattle.stan_syntax.specs.Depth.{greatest}
-use Rattle.stan_syntax.specs.Tree.{listed, furthers, steps, operation_steps, statements}
+use Rattle.stan_model_grammar.specs.TreeLists.{listed, furthers, steps, operation_steps, statements}
 
 module _ where
   greatest_push : {A : Type 0} (f : A → ℕ) (xs : List A) (x : A) → greatest f (xs ++ x ∷ []) ≡ max (greatest f xs) (f x)

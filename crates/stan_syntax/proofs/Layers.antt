@@ -1,14 +1,14 @@
 -- The model's tree of each variant and each struct of the program's trees, and of each struct by its fields.
 use Rattle.std.proofs.Common.{◌≡◌, ℕ, Bool, List, Option, Some, None, ap, sym, ◌∙◌}
 use Rattle.std.specs.Prelude.{map, option_map}
-use Rattle.stan_base.specs.declared.operators.ArrayStyle.{ArrayStyle}
-use Rattle.stan_base.specs.declared.operators.AssignmentOperator.{AssignmentOperator}
-use Rattle.stan_base.specs.declared.operators.BinaryOperator.{BinaryOperator}
-use Rattle.stan_base.specs.declared.operators.Leaf.{Leaf}
-use Rattle.stan_base.specs.declared.operators.PrefixOperator.{PrefixOperator}
-use Rattle.stan_base.specs.declared.operators.Visibility.{Visibility}
-use Rattle.stan_base.specs.declared.php.Token.{Token}
-use Rattle.stan_base.specs.model.PhpTrees as model
+use Rattle.stan_model_grammar.specs.declared.operators.ArrayStyle.{ArrayStyle}
+use Rattle.stan_model_grammar.specs.declared.operators.AssignmentOperator.{AssignmentOperator}
+use Rattle.stan_model_grammar.specs.declared.operators.BinaryOperator.{BinaryOperator}
+use Rattle.stan_model_grammar.specs.declared.operators.Leaf.{Leaf}
+use Rattle.stan_model_grammar.specs.declared.operators.PrefixOperator.{PrefixOperator}
+use Rattle.stan_model_grammar.specs.declared.operators.Visibility.{Visibility}
+use Rattle.stan_model_grammar.specs.declared.token.Token.{Token}
+use Rattle.stan_model_grammar.specs.Trees as model
 use Rattle.stan_syntax.specs.declared.tree.TypeTree.{TypeTree}
 use Rattle.stan_syntax.specs.declared.tree.Argument.{Argument, roll-Argument, fold-roll-Argument}
 use Rattle.stan_syntax.specs.declared.tree.Arm.{Arm, roll-Arm, fold-roll-Arm}
@@ -36,7 +36,8 @@ use Rattle.stan_syntax.specs.declared.tree.Suffix.TheVariants as suffixes
 use Rattle.stan_syntax.specs.declared.tree.TextPart.TheVariants as parts
 use Rattle.stan_syntax.specs.declared.tree.Argument.TheOpen.{Argument-F, Arm-F, Body-F, ClassReference-F, Element-F, Form-F, MemberName-F, Stmt-F, Suffix-F, TextPart-F}
 use Rattle.stan_syntax.specs.declared.tree.Argument.TheFolds.{map-Argument, map-Arm, map-Body, map-ClassReference, map-Element, map-Form, map-MemberName, map-Stmt, map-Suffix, map-TextPart}
-use Rattle.stan_syntax.specs.Tree.{listed, operation_steps, chain_stratum, steps, statements as statements_of, may_be_called, default_of, may_type, argument_step, arm_step, body_step, class_step, element_step, form_step, member_step, statement_step, suffix_step, part_step, arguments_step, expr_step, operation_step, parameter_step, argument_of, arm_of, body_of, class_of, element_of, form_of, member_of, statement_of, suffix_of, part_of, arguments_of, tree_of, operation_of, parameter_of}
+use Rattle.stan_model_grammar.specs.TreeLists.{listed, operation_steps, chain_stratum, steps, may_be_called, default_of}
+use Rattle.stan_syntax.specs.Tree.{statements as statements_of, may_type, argument_step, arm_step, body_step, class_step, element_step, form_step, member_step, statement_step, suffix_step, part_step, arguments_step, expr_step, operation_step, parameter_step, argument_of, arm_of, body_of, class_of, element_of, form_of, member_of, statement_of, suffix_of, part_of, arguments_of, tree_of, operation_of, parameter_of}
 
 module _ where
   abbrev Whole : ((A B C D E F G H I J K L M N : Type 0) → Type 0) → Type 0

@@ -1,8 +1,8 @@
 -- The tree of the model that a value of the program stands for, by one layer of it at a time.
 use Rattle.std.specs.Prelude.{ℕ, Bool, List, [], ◌∷◌, Option, Some, None, map}
-use Rattle.stan_base.specs.declared.operators.BinaryOperator.{BinaryOperator}
-use Rattle.stan_base.specs.model.PhpStrata.{binary_stratum}
-use Rattle.stan_base.specs.model.PhpTrees as model
+use Rattle.stan_model_grammar.specs.declared.operators.BinaryOperator.{BinaryOperator}
+use Rattle.stan_model_grammar.specs.Strata.{binary_stratum}
+use Rattle.stan_model_grammar.specs.Trees as model
 use Rattle.stan_syntax.specs.declared.tree.TypeTree.{TypeTree}
 use Rattle.stan_syntax.specs.declared.tree.TypeTree.TheVariants as types
 use Rattle.stan_syntax.specs.declared.tree.Expr.{Expr}
@@ -21,41 +21,6 @@ use Rattle.stan_syntax.specs.declared.tree.Body.{Body}
 use Rattle.stan_syntax.specs.declared.tree.Stmt.{Stmt}
 use Rattle.stan_syntax.specs.declared.tree.Argument.TheOpen.{Expr-F, Form-F, Arguments-F, Argument-F, Element-F, Parameter-F, Arm-F, ClassReference-F, Suffix-F, MemberName-F, Operation-F, TextPart-F, Body-F, Stmt-F}
 use Rattle.stan_syntax.specs.declared.tree.Argument.TheFolds as folds
-
--- ---- lists of the program as lists of the model
-
-abbrev pub steps : List model.Step → model.Steps
-steps [] = model.no_step
-steps (x ∷ xs) = model.step x (steps xs)
-
-abbrev pub furthers : List model.Item → model.Steps
-furthers [] = model.no_step
-furthers (x ∷ xs) = model.step (model.Further x) (furthers xs)
-
-abbrev pub listed : List model.Item → Bool → model.Items
-listed [] comma = model.no_item
-listed (x ∷ xs) comma = model.items x (furthers xs) comma
-
-abbrev pub operation_steps : List (BinaryOperator × model.Tree) → model.Steps
-operation_steps [] = model.no_step
-operation_steps (o ∷ os) = model.step (model.Operation o.0 o.1) (operation_steps os)
-
--- the stratum of a chain, which is that of its first operator
-abbrev pub chain_stratum : List (BinaryOperator × model.Tree) → ℕ
-chain_stratum [] = 0
-chain_stratum (o ∷ os) = binary_stratum o.0
-
-abbrev pub may_be_called : Option model.Items → model.Arguments
-may_be_called None = model.no_arguments
-may_be_called (Some es) = model.arguments es
-
-abbrev pub default_of : Option model.Tree → model.Default
-default_of None = model.no_default
-default_of (Some e) = model.default e
-
-abbrev pub statements : List model.Statement → model.Statements
-statements [] = model.no_statement
-statements (s ∷ ss) = model.statement s (statements ss)
 
 abbrev pub type_of : TypeTree → model.TypeTree
 type_of (types.Nullable first name) = model.Nullable first name

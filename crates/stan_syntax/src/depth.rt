@@ -1,16 +1,17 @@
 //! How deep an expression is.
 
 ghost use Rattle.std.specs.Prelude.{◌≡◌, ◌^◌, ◌+◌, ◌-◌, Bool, min, map, option_map};
-ghost use Rattle.stan_base.specs.model.PhpDepth as model;
-ghost use Rattle.stan_base.specs.model.PhpTrees.{Captured};
+ghost use Rattle.stan_model_grammar.specs.Depth as model;
+ghost use Rattle.stan_model_grammar.specs.Trees.{Captured};
 ghost use Rattle.stan_syntax.specs.Depth.{greatest};
-ghost use Rattle.stan_syntax.specs.Tree.{tree_of, form_of, arguments_of, argument_of, element_of, parameter_of, arm_of, class_of, suffix_of, member_of, operation_of, part_of, body_of, statement_of, may_be_called, listed};
+ghost use Rattle.stan_model_grammar.specs.TreeLists.{may_be_called, listed};
+ghost use Rattle.stan_syntax.specs.Tree.{tree_of, form_of, arguments_of, argument_of, element_of, parameter_of, arm_of, class_of, suffix_of, member_of, operation_of, part_of, body_of, statement_of};
 
 use crate::tree::{
     Argument, Arguments, Arm, Body, ClassReference, Element, Expr, Form, MemberName, Operation,
     Parameter, Stmt, Suffix, TextPart,
 };
-use stan_base::php::{Token, TokenKind};
+use stan_model_grammar::token::{Token, TokenKind};
 
 impl Expr {
     /// How deep it is, at most `u32::MAX`. One token is 0.

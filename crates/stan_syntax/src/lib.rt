@@ -6,7 +6,7 @@ mod depth;
 mod tests;
 mod tree;
 
-pub use stan_base::operators::{
+pub use stan_model_grammar::operators::{
     ArrayStyle, AssignmentOperator, BinaryOperator, Leaf, PrefixOperator, Visibility,
 };
 pub use tree::{

@@ -6,7 +6,7 @@ mod operators;
 mod spelled;
 
 use crate::Expr;
-use stan_base::php::TokenKind;
+use stan_model_grammar::token::TokenKind;
 use std::process::Abort;
 
 // That the tree of the source spells these kinds, and is so deep.

@@ -1,10 +1,10 @@
 //! Trees of PHP's expressions: one variant a production of the grammar, with its parts in order.
 
 use sqlite_items::{Boxed, Items};
-use stan_base::operators::{
+use stan_model_grammar::operators::{
     ArrayStyle, AssignmentOperator, BinaryOperator, Leaf, PrefixOperator, Visibility,
 };
-use stan_base::php::Token;
+use stan_model_grammar::token::Token;
 
 /// A written type, by the tokens of its names.
 #[derive(Drop)]

@@ -15,8 +15,8 @@ use Rattle.std.proofs.lemmas.List.{length_push, map_more, length-map, length-tak
 use Rattle.std.proofs.lemmas.Map.Text.{is_eq-slice_cmp}
 use Rattle.stan_base.specs.declared.ask_kind.AskKind.{AskKind}
 use Rattle.stan_base.specs.declared.ask_kind.AskKind.TheVariants as kinds
-use Rattle.stan_base.specs.model.Bytes.{fold_case}
-use Rattle.stan_base.specs.model.Table.{Exported, FunctionNode, answer_of, is_named}
+use Rattle.stan_base.specs.Bytes.{fold_case}
+use Rattle.stan_model_types.specs.Table.{Exported, FunctionNode, answer_of, is_named}
 use Rattle.stan_table.specs.declared.exported.Exported as exported
 use Rattle.stan_table.specs.declared.exported.Exported.TheVariants as variants
 use Rattle.stan_table.specs.Table.{node_of, declared_name}

@@ -7,8 +7,8 @@ use Rattle.std.specs.Char.{to_ascii_lowercase}
 use Rattle.std.specs.List.{list_any}
 use Rattle.stan_base.specs.declared.ask_kind.AskKind.{AskKind}
 use Rattle.stan_base.specs.declared.ask_kind.AskKind.TheVariants as kinds
-use Rattle.stan_base.specs.model.Bytes.{fold_case}
-use Rattle.stan_base.specs.model.Names.{fold_namespace, fold_name}
+use Rattle.stan_base.specs.Bytes.{fold_case}
+use Rattle.stan_base.specs.Names.{fold_namespace, fold_name}
 
 pub fold_case_twice : (name : List ℕ) → fold_case (fold_case name) ≡ fold_case name
 fold_case_twice [] = refl

@@ -4,8 +4,8 @@ use Rattle.std.specs.Ordering.{nat_cmp}
 use Rattle.std.specs.Cmp.Lexicographic.{slice_cmp}
 use Rattle.std.specs.BTreeMap.{BTreeMap, get_by}
 use Rattle.stan_base.specs.declared.ask_kind.AskKind.TheVariants as kinds
-use Rattle.stan_base.specs.model.Names.{fold_name}
-use Rattle.stan_base.specs.model.Table.{Exported, answer_of}
+use Rattle.stan_base.specs.Names.{fold_name}
+use Rattle.stan_model_types.specs.Table.{Exported, answer_of}
 
 -- the place that stands at these bytes
 abbrev pub place_at : {Z : Type 0} → BTreeMap (Vec ℕ Z) ℕ → List ℕ → Option ℕ

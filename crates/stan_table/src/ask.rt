@@ -2,7 +2,7 @@
 
 ghost use Rattle.std.specs.Prelude.{◌≡◌, ◌⊎◌, ◌≢◌, ℕ, ◌-◌, ◌<◌, ◌≤◌, IfOk, length, slice_index};
 ghost use Rattle.stan_base.specs.Name.{name_bytes};
-ghost use Rattle.stan_base.specs.model.Names.{fold_name, fold_namespace};
+ghost use Rattle.stan_base.specs.Names.{fold_name, fold_namespace};
 
 use stan_base::{AskKind, Name, OutOfMemory};
 use std::alloc::Global;

@@ -2,7 +2,7 @@
 
 ghost use Rattle.std.specs.Prelude.{◌≡◌, ◌<◌, ◌^◌, IfOk, map, length, Some, slice_get, vec_len};
 ghost use Rattle.stan_base.specs.Name.{name_bytes};
-ghost use Rattle.stan_base.specs.model.Table.{answer_of};
+ghost use Rattle.stan_model_types.specs.Table.{answer_of};
 ghost use Rattle.stan_table.specs.Table.{node_of};
 ghost use Rattle.stan_table.specs.Places.{AnswerFunctions};
 

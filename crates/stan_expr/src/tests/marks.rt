@@ -1,6 +1,6 @@
 //! How operators and the like are spelled.
 
-use stan_base::operators::{
+use stan_model_grammar::operators::{
     ArrayStyle, AssignmentOperator, BinaryOperator, Leaf, PrefixOperator, Visibility,
 };
 

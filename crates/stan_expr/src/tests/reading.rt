@@ -1,7 +1,7 @@
 //! How deep the expressions of texts are read.
 
 use crate::{Parsed, expression};
-use stan_base::php::Token;
+use stan_model_grammar::token::Token;
 use stan_lexer::{code_tokens, lex};
 use std::alloc::Global;
 use std::test::Fail;

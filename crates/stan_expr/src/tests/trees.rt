@@ -3,7 +3,7 @@
 use super::reading::tokens;
 use super::shown::Printer;
 use crate::{Parsed, expression};
-use stan_base::php::Token;
+use stan_model_grammar::token::Token;
 use stan_syntax::Expr;
 use std::alloc::Global;
 use std::test::Fail;

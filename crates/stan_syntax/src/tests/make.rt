@@ -6,7 +6,7 @@ use crate::{
     TypeTree,
 };
 use sqlite_items::{Boxed, Items};
-use stan_base::php::{Token, TokenKind};
+use stan_model_grammar::token::{Token, TokenKind};
 use std::alloc::Global;
 use std::process::Abort;
 

@@ -8,7 +8,7 @@ use crate::{
     Argument, Arm, ArrayStyle, AssignmentOperator, BinaryOperator, Body, ClassReference, Expr,
     Form, Suffix, TextPart, TypeTree,
 };
-use stan_base::php::TokenKind::{
+use stan_model_grammar::token::TokenKind::{
     Arrow, Assign, Bar, Colon, Comma, Default, Die, Dot, DoubleArrow as Gives,
     DoubleColon as Scope, Ellipsis, Empty, Fn, Function, Identifier, InsertedElement as Indexed,
     InsertedVariable as Inserted, InsertionEnd as EndInsert, InsertionStart as Insert, Integer,

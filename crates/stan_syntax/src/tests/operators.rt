@@ -3,7 +3,7 @@
 use super::holds;
 use super::make::{Make, integer, name, quoted, variable};
 use crate::{AssignmentOperator, BinaryOperator, Expr, PrefixOperator};
-use stan_base::php::TokenKind::{
+use stan_model_grammar::token::TokenKind::{
     Ampersand, And, Assign, Bar, Below, Caret, Clone, Coalesce, Colon, Dot, DotAssign,
     DoubleAmpersand as Both, DoubleBar, Exclamation as Not, Identifier, Include, InstanceOf,
     IntCast, Integer, LeftParenthesis as Open, LooselyEqual as Equal, Minus, Or, Percent, Plus,

@@ -4,7 +4,7 @@ use crate::{
     Argument, Arguments, Arm, ArrayStyle, AssignmentOperator, BinaryOperator, Body, ClassReference,
     Element, Expr, Form, MemberName, Operation, Parameter, Stmt, Suffix, TextPart, TypeTree,
 };
-use stan_base::php::{Token, TokenKind};
+use stan_model_grammar::token::{Token, TokenKind};
 
 /// Whether the tree spells exactly these. The tokens of a held body are passed over.
 pub fn spells(tree: &Expr, kinds: &[TokenKind]) -> bool {

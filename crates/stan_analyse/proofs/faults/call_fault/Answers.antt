@@ -1,7 +1,7 @@
 use Rattle.std.proofs.Common.{◌∙◌, ℕ, List, ap, ap₂, arith}
 use Rattle.std.proofs.lemmas.Result.{IfOk-weaker}
-use Rattle.stan_base.specs.model.Faults.{CallFact}
-use Rattle.stan_base.specs.model.Names.{resolved}
+use Rattle.stan_model_facts.specs.Facts.{CallFact}
+use Rattle.stan_base.specs.Names.{resolved}
 use Rattle.stan_table.specs.Index.{index_table}
 use Rattle.stan_analyse.specs.Faults.{fact_fault}
 use Rattle.stan_analyse.proofs.FeedLemmas.{few_feeds}

@@ -1,5 +1,5 @@
 use Rattle.std.proofs.Common.{◌≡◌, map, take}
-use Rattle.stan_table.specs.Table.{fault_of}
+use Rattle.stan_analyst.specs.Verdict.{fault_of}
 use Rattle.stan_table.specs.Index.{index_table}
 use Rattle.stan_analyse.specs.Faults.{call_faults}
 use Rattle.stan_analyse.proofs.faults.call_faults.Given as goal

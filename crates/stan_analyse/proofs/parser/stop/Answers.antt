@@ -1,5 +1,5 @@
 use Rattle.std.proofs.Common.{inl, inr, ap, sym, ◌∙◌}
-use Rattle.stan_base.specs.model.Grammar.{goes_on}
+use Rattle.stan_model_grammar.specs.Files.{goes_on}
 use Rattle.stan_analyse.proofs.FrontLemmas.{stops_after, stops_before, last_within}
 use Rattle.stan_analyse.proofs.parser.stop.Goals as goal
 

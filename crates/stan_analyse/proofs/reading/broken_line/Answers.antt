@@ -1,5 +1,5 @@
 use Rattle.std.proofs.Common.{arith}
-use Rattle.stan_base.specs.declared.php.TokenKind.TheVariants.{End}
+use Rattle.stan_model_grammar.specs.declared.token.TokenKind.TheVariants.{End}
 use Rattle.stan_analyse.proofs.ReadingSteps.{token_begins, syntax_error}
 use Rattle.stan_analyse.proofs.reading.broken_line.Goals as goal
 

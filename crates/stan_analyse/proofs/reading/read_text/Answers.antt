@@ -1,5 +1,5 @@
 use Rattle.std.proofs.Common.{◌∙◌, ap, arith}
-use Rattle.stan_base.specs.model.PhpTokens.{code_tokens}
+use Rattle.stan_model_grammar.specs.Tokens.{code_tokens}
 use Rattle.stan_analyse.proofs.ReadingSteps.{read_whole, read_broken}
 use Rattle.stan_analyse.proofs.TokenCount.{code_few}
 use Rattle.stan_analyse.proofs.reading.read_text.Goals as goal

@@ -1,5 +1,5 @@
 use Rattle.std.proofs.Common.{append_assoc, arith, map}
-use Rattle.stan_base.specs.model.Sites.{sites}
+use Rattle.stan_model_grammar.specs.Sites.{sites}
 use Rattle.stan_syntax.specs.Tree.{operation_of}
 use Rattle.stan_syntax.proofs.Layers.{argument-Named, argument-Positional, argument-Spread, arguments_fields, arm-Conditions, arm-Default, body-Held, body-Read, class-Computed, class-Named, class-Scoped, class-Variable, element-Keyed, element-Spread, element-Value, form-Array, form-Arrow, form-Assignment, form-Binary, form-Brackets, form-Chain, form-Closure, form-Conditional, form-Empty, form-Exit, form-IsSet, form-Leaf, form-Match, form-New, form-Post, form-Prefix, form-Text, member-Computed, member-Named, operation_fields, parameter_fields, part-Expression, part-Token, statement-Expression, suffix-Call, suffix-Decrement, suffix-Increment, suffix-Index, suffix-Property, suffix-Push, suffix-Scoped, tree_fields}
 use Rattle.stan_analyse.proofs.Lists.{flat_more, items_flat, none, operations_flat, positional_flat, statements_flat, steps_flat}

@@ -1,6 +1,6 @@
 use Rattle.std.proofs.Common.{◌≡◌, ◌++◌, map, take}
 use Rattle.std.specs.List.{flat_map}
-use Rattle.stan_base.specs.model.Sites.{item_sites, sites, statement_sites, step_sites}
+use Rattle.stan_model_grammar.specs.Sites.{item_sites, sites, statement_sites, step_sites}
 use Rattle.stan_syntax.specs.Tree.{argument_of, arm_of, element_of, operation_of, parameter_of, part_of, statement_of, suffix_of, tree_of}
 use Rattle.stan_analyse.specs.Sites.{site_of}
 use Rattle.stan_analyse.proofs.sites.+sites.Given as goal

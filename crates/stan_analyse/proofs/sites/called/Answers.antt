@@ -1,5 +1,6 @@
 use Rattle.std.proofs.Common.{sym, ◌∙◌, map}
-use Rattle.stan_syntax.specs.Tree.{form_of, steps, suffix_of}
+use Rattle.stan_model_grammar.specs.TreeLists.{steps}
+use Rattle.stan_syntax.specs.Tree.{form_of, suffix_of}
 use Rattle.stan_syntax.proofs.Layers.{tree_fields}
 use Rattle.stan_analyse.proofs.Calls.{name_called}
 use Rattle.stan_analyse.proofs.sites.called.Goals as goal

@@ -1,9 +1,9 @@
 use Rattle.std.proofs.Common.{◌≡◌, refl, ◌∙◌}
-use Rattle.stan_base.specs.contracts.operators.Leaf.{the_type}
-use Rattle.stan_base.specs.declared.operators.Leaf.{Leaf}
-use Rattle.stan_base.specs.declared.operators.Leaf.TheVariants as leaves
-use Rattle.stan_base.specs.declared.php.Token.{Token}
-use Rattle.stan_base.specs.model.PhpTrees.{node, Single}
+use Rattle.stan_model_grammar.specs.contracts.operators.Leaf.{the_type}
+use Rattle.stan_model_grammar.specs.declared.operators.Leaf.{Leaf}
+use Rattle.stan_model_grammar.specs.declared.operators.Leaf.TheVariants as leaves
+use Rattle.stan_model_grammar.specs.declared.token.Token.{Token}
+use Rattle.stan_model_grammar.specs.Trees.{node, Single}
 use Rattle.stan_syntax.proofs.Layers.{tree_fields, form-Array, form-Arrow, form-Assignment, form-Binary, form-Brackets, form-Chain, form-Closure, form-Conditional, form-Empty, form-Exit, form-IsSet, form-Leaf, form-Match, form-New, form-Post, form-Prefix, form-Text}
 use Rattle.stan_analyse.specs.Sites.{is_name}
 use Rattle.stan_analyse.proofs.sites.is_name.Goals as goal

@@ -5,8 +5,8 @@ use Rattle.std.proofs.lemmas.List.{length-map}
 use Rattle.std.proofs.lemmas.Iterator.{YieldsList-from_slice}
 use Rattle.std.proofs.lemmas.Iterator.Search.{any_from_yields_List}
 use borrow.Author.Tests.{tests}
-use Rattle.stan_table.specs.Table.{fault_of}
-use Rattle.stan_table.specs.declared.verdict.FileFaults.{FileFaults}
+use Rattle.stan_analyst.specs.Verdict.{fault_of}
+use Rattle.stan_analyst.specs.declared.verdict.FileFaults.{FileFaults}
 use Rattle.stan_cli.specs.Files.{file_of}
 use Rattle.stan_cli.proofs.ListLemmas.{list_any-map}
 use Rattle.stan_cli.proofs.analysis.has_fault.Goals as goal

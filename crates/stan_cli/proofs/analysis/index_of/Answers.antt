@@ -3,7 +3,7 @@ use Rattle.std.specs.List.{sum_by}
 use Rattle.std.proofs.lemmas.List.{get_or-map, length-map, take_all, map-append}
 use Rattle.std.proofs.lemmas.List.Sums.{sum_by_more}
 use Rattle.std.proofs.lemmas.Result.{IfOk-weaker}
-use Rattle.stan_base.specs.model.Project.{most_bytes}
+use Rattle.stan_cli.specs.Project.{most_bytes}
 use Rattle.stan_table.specs.Table.{node_of}
 use Rattle.stan_table.specs.Index.{index_table}
 use Rattle.stan_table.specs.declared.source.Source.{Source}

@@ -1,7 +1,7 @@
 use Rattle.std.proofs.Common.{rules, map, string_bytes}
 use Rattle.std.proofs.lemmas.Fn.{filter_same}
 use borrow.Author.Tests.{tests}
-use Rattle.stan_base.specs.model.Project.{is_chosen}
+use Rattle.stan_cli.specs.Project.{is_chosen}
 use Rattle.stan_cli.proofs.choice.keep_chosen.Goals as goal
 
 pub returns : goal.returns

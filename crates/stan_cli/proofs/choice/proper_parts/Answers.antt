@@ -2,7 +2,7 @@ use Rattle.std.proofs.Common.{rules, lit<}
 use Rattle.std.proofs.lemmas.Iterator.Consumers.{map_from_collect, YieldsList-from_filter}
 use Rattle.std.proofs.lemmas.Iterator.Splits.{YieldsList-from_str_split}
 use borrow.Author.Tests.{tests}
-use Rattle.stan_base.specs.model.Project.{is_proper_part}
+use Rattle.stan_outside.specs.Contents.{is_proper_part}
 use Rattle.stan_cli.proofs.choice.proper_parts.Goals as goal
 
 pub returns : goal.returns

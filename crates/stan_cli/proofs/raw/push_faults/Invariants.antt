@@ -1,6 +1,6 @@
 use Rattle.std.proofs.Common.{◌≡◌, ◌++◌, map, take, string_bytes}
 use Rattle.std.specs.List.{flat_map}
-use Rattle.stan_table.specs.Table.{fault_of}
+use Rattle.stan_analyst.specs.Verdict.{fault_of}
 use Rattle.stan_cli.specs.Raw.{raw_line}
 use Rattle.stan_cli.proofs.raw.push_faults.Given as goal
 

@@ -1,7 +1,7 @@
 use Rattle.std.proofs.Common.{◌≡◌, ◌∙◌, sym, ap, subst, map, length, string_bytes, None, take, ◌++◌}
 use Rattle.std.proofs.lemmas.Bool.{false≢true}
 use Rattle.std.proofs.lemmas.Result.{err_from_is_err_and}
-use Rattle.stan_base.specs.model.Project.{chosen_files}
+use Rattle.stan_cli.specs.Project.{chosen_files}
 use Rattle.stan_cli.specs.Sources.{source_bytes}
 use Rattle.stan_cli.specs.Words.{refused_part}
 use Rattle.stan_cli.specs.Run.{files_of, IsProjectRefusal}

@@ -4,8 +4,8 @@ use Rattle.std.specs.List.{Contains, zip}
 use Rattle.std.specs.FinMap as finite
 use Rattle.std.proofs.lemmas.Result.{err_from_is_err_and}
 use Rattle.std.proofs.lemmas.List.{length-map}
-use Rattle.stan_base.specs.model.Project.{chosen_files, paths_of, sources_of, most_files}
-use Rattle.stan_base.proofs.Orders.{Contains-chosen}
+use Rattle.stan_cli.specs.Project.{chosen_files, paths_of, sources_of, most_files}
+use Rattle.stan_cli.proofs.ChosenLemmas.{Contains-chosen}
 use Rattle.stan_cli.specs.Sources.{source_bytes, source_at}
 use Rattle.stan_cli.proofs.ProjectLemmas.{sources-chosen, zip-files}
 use Rattle.stan_cli.proofs.RunLemmas.{project_refusal-read, number}

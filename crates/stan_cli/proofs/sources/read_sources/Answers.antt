@@ -1,5 +1,5 @@
 use Rattle.std.proofs.Common.{◌≡◌, ◌+◌, ◌∙◌, sym, ap, map, length, string_bytes, arith, List, ℕ, String, Global, get_or, Some}
-use Rattle.stan_base.specs.model.Project.{excess_from}
+use Rattle.stan_cli.specs.Project.{excess_from}
 use Rattle.stan_table.specs.declared.source.Source.{Source}
 use Rattle.stan_cli.specs.Sources.{source_bytes, source_at}
 use Rattle.stan_cli.proofs.ListLemmas.{map_twice}

@@ -1,5 +1,5 @@
 use Rattle.std.proofs.Common.{◌≡◌, ℕ, ◌≤◌, List, ◌++◌, map, take, string_bytes, length}
-use Rattle.stan_base.specs.model.Project.{most_bytes, excess_from}
+use Rattle.stan_cli.specs.Project.{most_bytes, excess_from}
 use Rattle.stan_cli.specs.Sources.{KeepsTree, source_bytes, source_at}
 use Rattle.stan_cli.proofs.sources.read_sources.Given as goal
 

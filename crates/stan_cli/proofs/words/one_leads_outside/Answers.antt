@@ -2,7 +2,7 @@ use Rattle.std.proofs.Common.{◌∙◌, sym, rules, string_bytes}
 use Rattle.std.proofs.lemmas.Iterator.{YieldsList-from_slice}
 use Rattle.std.proofs.lemmas.Iterator.Search.{any_from_yields_List}
 use borrow.Author.Tests.{tests}
-use Rattle.stan_base.specs.model.Project.{leads_outside}
+use Rattle.stan_cli.specs.Project.{leads_outside}
 use Rattle.stan_cli.proofs.ListLemmas.{list_any-map}
 use Rattle.stan_cli.proofs.words.one_leads_outside.Goals as goal
 

@@ -1,7 +1,7 @@
 use Rattle.std.proofs.Common.{arith, sym}
-use Rattle.stan_base.specs.declared.php.TokenKind.TheVariants as kinds
-use Rattle.stan_base.proofs.PhpInsideLemmas.{is_inside}
-use Rattle.stan_expr.proofs.Reading.{after_is}
+use Rattle.stan_model_grammar.specs.declared.token.TokenKind.TheVariants as kinds
+use Rattle.stan_expr_law.proofs.InsideLemmas.{is_inside}
+use Rattle.stan_expr_greedy.proofs.Reading.{after_is}
 use Rattle.stan_expr.proofs.bodies.body.Goals as goal
 
 pub overflow_cast-body : goal.overflow_cast-body

@@ -1,5 +1,5 @@
 use Rattle.std.proofs.Common.{◌≡◌, ◌-◌, ◌+◌, ◌≤◌}
-use Rattle.stan_expr.specs.Parse.{closing, closing_within}
+use Rattle.stan_expr_rules.specs.Parse.{closing, closing_within}
 use Rattle.stan_expr.proofs.bodies.closing.Given as goal
 
 abbrev pub invariant-loop-turn : goal.invariant-loop-turn

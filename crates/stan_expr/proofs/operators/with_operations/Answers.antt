@@ -1,5 +1,5 @@
 use Rattle.std.proofs.Common.{ap, Some}
-use Rattle.stan_base.specs.model.PhpTrees.{Tree}
+use Rattle.stan_model_grammar.specs.Trees.{Tree}
 use Rattle.stan_expr.proofs.ListLemmas.{operations_made}
 use Rattle.stan_expr.proofs.operators.with_operations.Goals as goal
 

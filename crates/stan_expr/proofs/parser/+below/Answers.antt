@@ -1,5 +1,5 @@
 use Rattle.std.proofs.Common.{◌≡◌, ap, arith}
-use Rattle.stan_expr.specs.Parse.{below}
+use Rattle.stan_expr_rules.specs.Parse.{below}
 use Rattle.stan_expr.proofs.Loops.{deeper}
 use Rattle.stan_expr.proofs.parser.+below.Goals as goal
 

@@ -1,6 +1,6 @@
 use Rattle.std.proofs.Common.{◌≡◌, ◌-◌, arith, sym, ap, ◌∙◌, true}
-use Rattle.stan_base.specs.model.PhpDepth.{depth}
-use Rattle.stan_base.specs.model.PhpStrata.{kind_at, is_end}
+use Rattle.stan_model_grammar.specs.Depth.{depth}
+use Rattle.stan_model_grammar.specs.Strata.{kind_at, is_end}
 use Rattle.stan_syntax.specs.Tree.{tree_of}
 use Rattle.stan_expr.proofs.Answer.{has_tree, too_deep, none_read, same_read, is_read, not_both, as_true}
 use Rattle.stan_expr.proofs.parser.expression.Goals as goal

@@ -1,6 +1,6 @@
 use Rattle.std.proofs.Common.{arith, refl, ◌+◌}
 use Rattle.std.proofs.lemmas.Option.{slice_get_past}
-use Rattle.stan_base.specs.model.PhpStrata.{kind_at}
+use Rattle.stan_model_grammar.specs.Strata.{kind_at}
 use Rattle.stan_expr.proofs.places.next_kind.Goals as goal
 
 pub returns-else-at-tokens : goal.returns-else-at-tokens

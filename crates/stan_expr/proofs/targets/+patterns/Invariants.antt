@@ -1,6 +1,7 @@
 use Rattle.std.proofs.Common.{◌≡◌, false, take, map}
-use Rattle.stan_base.specs.model.PhpTrees.{further_pattern}
-use Rattle.stan_syntax.specs.Tree.{element_of, furthers}
+use Rattle.stan_model_grammar.specs.Trees.{further_pattern}
+use Rattle.stan_model_grammar.specs.TreeLists.{furthers}
+use Rattle.stan_syntax.specs.Tree.{element_of}
 use Rattle.stan_expr.proofs.targets.+patterns.Given as goal
 
 abbrev pub invariant-any_pattern-loop-element : goal.invariant-any_pattern-loop-element

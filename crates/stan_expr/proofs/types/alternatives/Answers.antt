@@ -1,4 +1,4 @@
-use Rattle.stan_expr.specs.Parse.{alternative}
+use Rattle.stan_expr_rules.specs.Parse.{alternative}
 use Rattle.stan_expr.proofs.Loops.{loop_takes}
 use Rattle.stan_expr.proofs.types.alternatives.Goals as goal
 

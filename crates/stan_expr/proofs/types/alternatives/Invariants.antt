@@ -1,5 +1,5 @@
 use Rattle.std.proofs.Common.{◌≡◌, ◌-◌}
-use Rattle.stan_expr.specs.Parse.{many, alternative, alternatives}
+use Rattle.stan_expr_rules.specs.Parse.{many, alternative, alternatives}
 use Rattle.stan_expr.proofs.types.alternatives.Given as goal
 
 abbrev pub invariant-loop-turn : goal.invariant-loop-turn

@@ -1,5 +1,5 @@
 use Rattle.std.proofs.Common.{◌≡◌, ℕ, ◌<◌, ◌≤◌, take}
-use Rattle.stan_base.specs.model.PhpTokens.{open_texts}
+use Rattle.stan_model_grammar.specs.Tokens.{open_texts}
 use Rattle.stan_lexer.proofs.cut.open_text.Given as goal
 
 -- so many texts are open, the first of them from this place on

@@ -1,5 +1,5 @@
 use Rattle.std.proofs.Common.{◌≡◌, ◌-◌, ◌≤◌, ◌++◌, drop, length}
-use Rattle.stan_base.specs.model.PhpValues.{resolved}
+use Rattle.stan_model_grammar.specs.Values.{resolved}
 use Rattle.stan_lexer.proofs.escapes.resolved.Given as goal
 
 -- The bytes that are left complete the text.

@@ -1,5 +1,5 @@
 use Rattle.std.proofs.Common.{◌≡◌, ◌++◌, drop, false}
-use Rattle.stan_base.specs.model.PhpValues.{single_resolved}
+use Rattle.stan_model_grammar.specs.Values.{single_resolved}
 use Rattle.stan_lexer.proofs.escapes.single_resolved.Given as goal
 
 -- The bytes that are left complete the text.

@@ -1,5 +1,5 @@
 use Rattle.std.proofs.Common.{◌≡◌, ◌++◌, drop}
-use Rattle.stan_base.specs.model.PhpValues.{unindented}
+use Rattle.stan_model_grammar.specs.Values.{unindented}
 use Rattle.stan_lexer.proofs.escapes.unindented.Given as goal
 
 -- The bytes that are left complete the lines.

@@ -1,5 +1,5 @@
 use Rattle.std.proofs.Common.{◌≡◌, ◌-◌, ◌<◌, ◌≤◌, length}
-use Rattle.stan_base.specs.model.PhpBytes.{run_end}
+use Rattle.stan_model_grammar.specs.Runs.{run_end}
 use Rattle.stan_lexer.proofs.HeredocLemmas.{BeginsLine, passed}
 use Rattle.stan_lexer.proofs.heredocs.body_end.Given as goal
 

@@ -1,7 +1,7 @@
 use Rattle.std.proofs.Common.{◌≡◌, ◌≤◌, drop, None}
 use Rattle.std.specs.Option.{IfSome}
-use Rattle.stan_base.specs.declared.php.TokenKind.TheVariants as kinds
-use Rattle.stan_base.specs.model.PhpTokens.{joined}
+use Rattle.stan_model_grammar.specs.declared.token.TokenKind.TheVariants as kinds
+use Rattle.stan_model_grammar.specs.Tokens.{joined}
 use Rattle.stan_lexer.specs.Joined.{joined_behind}
 use Rattle.stan_lexer.proofs.joined.joined.Given as goal
 

@@ -1,6 +1,6 @@
 use Rattle.std.proofs.Common.{◌≡◌, ◌∙◌, ap, sym, arith}
-use Rattle.stan_base.specs.declared.php.Token.{Token}
-use Rattle.stan_base.specs.model.PhpTokens.{top, next_start, lexeme}
+use Rattle.stan_model_grammar.specs.declared.token.Token.{Token}
+use Rattle.stan_model_grammar.specs.Tokens.{top, next_start, lexeme}
 use Rattle.stan_lexer.proofs.LexemeLemmas.{AreLexemesUpTo-end, AreLexemes-push_bad}
 use Rattle.stan_lexer.proofs.lexemes.lexemes.Goals as goal
 use Rattle.stan_lexer.proofs.lexemes.lexemes.Goals.{then-start-source, else-start-source+in_ok-push+then-is_bad}

@@ -1,5 +1,5 @@
 use Rattle.std.proofs.Common.{refl, subst}
-use Rattle.stan_base.specs.model.PhpTokens.{IsOpenText}
+use Rattle.stan_model_grammar.specs.Tokens.{IsOpenText}
 use Rattle.stan_lexer.proofs.CutLemmas.{IsCut-at}
 use Rattle.stan_lexer.proofs.lexer.cut.Goals as goal
 

@@ -1,6 +1,6 @@
 use Rattle.std.proofs.Common.{◌≡◌, map, drop}
 use Rattle.stan_lexer.specs.Tables.{row_of}
-use Rattle.stan_base.specs.model.PhpMarks.{mark_among}
+use Rattle.stan_model_grammar.specs.Marks.{mark_among}
 use Rattle.stan_lexer.proofs.marks.mark_among.Given as goal
 
 -- the rows that are left hold the mark

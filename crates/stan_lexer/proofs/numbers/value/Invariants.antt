@@ -1,6 +1,6 @@
 use Rattle.std.proofs.Common.{◌≡◌, ◌≤◌, drop}
 use Rattle.std.specs.List.{fold}
-use Rattle.stan_base.specs.model.PhpBytes.{with_digit}
+use Rattle.stan_model_grammar.specs.Runs.{with_digit}
 use Rattle.stan_lexer.proofs.numbers.value.Given as goal
 
 -- The digits that are left complete the value.

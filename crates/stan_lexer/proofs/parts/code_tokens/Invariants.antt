@@ -1,5 +1,5 @@
 use Rattle.std.proofs.Common.{◌≡◌, take}
-use Rattle.stan_base.specs.model.PhpTokens.{code_tokens}
+use Rattle.stan_model_grammar.specs.Tokens.{code_tokens}
 use Rattle.stan_lexer.proofs.parts.code_tokens.Given as goal
 
 abbrev pub invariant-loop-token : goal.invariant-loop-token

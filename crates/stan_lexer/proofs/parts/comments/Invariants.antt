@@ -1,5 +1,5 @@
 use Rattle.std.proofs.Common.{◌≡◌, take}
-use Rattle.stan_base.specs.model.PhpTokens.{comments}
+use Rattle.stan_model_grammar.specs.Tokens.{comments}
 use Rattle.stan_lexer.proofs.parts.comments.Given as goal
 
 abbrev pub invariant-loop-token : goal.invariant-loop-token

@@ -1,6 +1,6 @@
 use Rattle.std.proofs.Common.{◌≡◌, ◌-◌, ◌≤◌, length, max}
-use Rattle.stan_base.specs.model.PhpBytes.{run_end}
-use Rattle.stan_base.specs.model.PhpTexts.{is_escaped}
+use Rattle.stan_model_grammar.specs.Runs.{run_end}
+use Rattle.stan_model_grammar.specs.Texts.{is_escaped}
 use Rattle.stan_lexer.specs.Quotes.{fixed_from}
 use Rattle.stan_lexer.proofs.quotes.fixed_end.Given as goal
 

@@ -1,5 +1,5 @@
 use Rattle.std.proofs.Common.{◌≡◌, ◌-◌, ◌≤◌, length, max}
-use Rattle.stan_base.specs.model.PhpBytes.{run_end}
+use Rattle.stan_model_grammar.specs.Runs.{run_end}
 use Rattle.stan_lexer.specs.Runs.{passes}
 use Rattle.stan_lexer.proofs.runs.run_end.Given as goal
 

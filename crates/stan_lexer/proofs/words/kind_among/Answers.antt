@@ -1,7 +1,7 @@
 use Rattle.std.proofs.Common.{◌∙◌, ap, sym, arith, []}
 use Rattle.std.proofs.lemmas.Bool.{false≢true}
-use Rattle.stan_base.specs.declared.php.TokenKind.TheVariants.{End}
-use Rattle.stan_base.specs.model.Bytes.{fold_case}
+use Rattle.stan_model_grammar.specs.declared.token.TokenKind.TheVariants.{End}
+use Rattle.stan_base.specs.Bytes.{fold_case}
 use Rattle.stan_lexer.proofs.TableLemmas.{kind_among-found, kind_among-passed}
 use Rattle.stan_lexer.proofs.words.kind_among.Goals as goal
 

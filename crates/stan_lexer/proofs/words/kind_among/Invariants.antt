@@ -1,6 +1,6 @@
 use Rattle.std.proofs.Common.{◌≡◌, map, drop}
 use Rattle.stan_lexer.specs.Tables.{row_of}
-use Rattle.stan_base.specs.model.PhpWords.{kind_among}
+use Rattle.stan_model_grammar.specs.Words.{kind_among}
 use Rattle.stan_lexer.proofs.words.kind_among.Given as goal
 
 -- the rows that are left give the word its kind

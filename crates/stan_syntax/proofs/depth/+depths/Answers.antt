@@ -1,5 +1,5 @@
 use Rattle.std.proofs.Common.{◌+◌, arith, sym}
-use Rattle.stan_base.specs.model.PhpDepth.{depth}
+use Rattle.stan_model_grammar.specs.Depth.{depth}
 use Rattle.stan_syntax.specs.Tree.{operation_of}
 use Rattle.stan_syntax.proofs.Depths.{greatest_more, items_greatest, operations_greatest, positional_greatest, statements_greatest, steps_greatest}
 use Rattle.stan_syntax.proofs.Layers.{operation_fields, argument-Named, argument-Positional, argument-Spread, arguments_fields, arm-Conditions, arm-Default, body-Held, body-Read, class-Computed, class-Named, class-Scoped, class-Variable, element-Keyed, element-Spread, element-Value, form-Array, form-Arrow, form-Assignment, form-Binary, form-Brackets, form-Chain, form-Closure, form-Conditional, form-Empty, form-Exit, form-IsSet, form-Leaf, form-Match, form-New, form-Post, form-Prefix, form-Text, member-Computed, member-Named, parameter_fields, part-Expression, part-Token, statement-Expression, suffix-Call, suffix-Decrement, suffix-Increment, suffix-Index, suffix-Property, suffix-Push, suffix-Scoped, tree_fields}

@@ -1,5 +1,5 @@
 use Rattle.std.proofs.Common.{◌≡◌, ◌+◌, ◌-◌, ◌^◌, take, min}
-use Rattle.stan_base.specs.model.PhpDepth.{depth, item_depth, statement_depth, step_depth}
+use Rattle.stan_model_grammar.specs.Depth.{depth, item_depth, statement_depth, step_depth}
 use Rattle.stan_syntax.specs.Depth.{greatest}
 use Rattle.stan_syntax.specs.Tree.{argument_of, arm_of, element_of, operation_of, parameter_of, part_of, statement_of, suffix_of, tree_of}
 use Rattle.stan_syntax.proofs.depth.+depths.Given as goal

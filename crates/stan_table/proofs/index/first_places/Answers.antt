@@ -1,6 +1,6 @@
 use Rattle.std.proofs.Common.{◌≡◌, ◌∙◌, map, take, ap, sym, arith}
 use Rattle.std.specs.Option.{is_some}
-use Rattle.stan_base.specs.model.Bytes.{fold_case}
+use Rattle.stan_base.specs.Bytes.{fold_case}
 use Rattle.stan_table.specs.Table.{node_of, declared_name}
 use Rattle.stan_table.specs.Places.{place_at}
 use Rattle.stan_table.proofs.FirstPlaces.{AnswerFunctions-kept, AnswerFunctions-added, nodes-more, length-nodes}

@@ -1,6 +1,6 @@
 use Rattle.std.proofs.Common.{◌≡◌, ◌∙◌, ap, subst}
-use Rattle.stan_base.specs.model.Reading.{IsReading}
-use Rattle.stan_base.specs.model.Faults.{faults_of}
+use Rattle.stan_model_grammar.specs.Reading.{IsReading}
+use Rattle.stan_model_verdict.specs.Faults.{faults_of}
 use Rattle.stan_table.specs.Index.{index_table}
 use Rattle.stan_table.specs.declared.source.Source.{Source}
 use Rattle.stan_analyse.proofs.analyst.PhpAnalyst.judge.Goals as goal

@@ -2,7 +2,7 @@ use Rattle.std.proofs.Common.{◌≡◌, ◌+◌, ℕ, ◌∙◌, ltb, ap, subst
 use Rattle.std.specs.List.{count_by}
 use Rattle.std.specs.List.Sorted.{IsNonDecreasingBy}
 use Rattle.std.proofs.lemmas.List.Sorted.{IsPartitionPoint-from_clause, IsPartitionedBy-ltb}
-use Rattle.stan_base.specs.model.Bytes.{line_of}
+use Rattle.stan_base.specs.Bytes.{line_of}
 use Rattle.stan_analyse.specs.Lines.{feeds_from}
 use Rattle.stan_analyse.proofs.FeedLemmas.{feeds-rise, count-partition, count-feeds}
 use Rattle.stan_analyse.proofs.lines.LineFeeds.line_at.Goals as goal

@@ -1,5 +1,5 @@
 use Rattle.std.proofs.Common.{refl}
-use Rattle.stan_expr.specs.Parse.{call}
+use Rattle.stan_expr_rules.specs.Parse.{call}
 use Rattle.stan_syntax.proofs.Layers.{suffix-Call, arguments-made}
 use Rattle.stan_expr.proofs.grammar.Grammar.call.Goals as goal
 

@@ -1,6 +1,6 @@
 use Rattle.std.proofs.Common.{◌≡◌, ◌-◌, map}
 use Rattle.stan_syntax.specs.Tree.{suffix_of}
-use Rattle.stan_expr.specs.Parse.{many, class_suffix_at, class_suffixes, below}
+use Rattle.stan_expr_rules.specs.Parse.{many, class_suffix_at, class_suffixes, below}
 use Rattle.stan_expr.proofs.grammar.Grammar.class_suffixes.Given as goal
 
 abbrev pub invariant-loop-turn : goal.invariant-loop-turn

@@ -1,6 +1,6 @@
 use Rattle.std.proofs.Common.{◌≡◌, ◌++◌, ◌∷◌, [], map}
 use Rattle.std.proofs.lemmas.List.{map_push}
-use Rattle.stan_expr.specs.Parse.{further_item, below}
+use Rattle.stan_expr_rules.specs.Parse.{further_item, below}
 use Rattle.stan_expr.proofs.Loops.{loop_takes}
 use Rattle.stan_expr.proofs.grammar.Grammar.more_items.Goals as goal
 

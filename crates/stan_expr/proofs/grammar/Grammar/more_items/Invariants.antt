@@ -1,5 +1,5 @@
 use Rattle.std.proofs.Common.{◌≡◌, ◌-◌, map}
-use Rattle.stan_expr.specs.Parse.{many, further_item, more_items, below}
+use Rattle.stan_expr_rules.specs.Parse.{many, further_item, more_items, below}
 use Rattle.stan_expr.proofs.grammar.Grammar.more_items.Given as goal
 
 abbrev pub invariant-loop-turn : goal.invariant-loop-turn

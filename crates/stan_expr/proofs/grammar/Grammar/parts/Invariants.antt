@@ -1,6 +1,6 @@
 use Rattle.std.proofs.Common.{◌≡◌, ◌-◌, map}
 use Rattle.stan_syntax.specs.Tree.{part_of}
-use Rattle.stan_expr.specs.Parse.{many, part_at, parts, below}
+use Rattle.stan_expr_rules.specs.Parse.{many, part_at, parts, below}
 use Rattle.stan_expr.proofs.grammar.Grammar.parts.Given as goal
 
 abbrev pub invariant-loop-turn : goal.invariant-loop-turn

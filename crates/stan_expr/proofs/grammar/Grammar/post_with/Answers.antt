@@ -1,4 +1,4 @@
-use Rattle.stan_expr.specs.Parse.{post_with, atom_with}
+use Rattle.stan_expr_rules.specs.Parse.{post_with, atom_with}
 use Rattle.stan_syntax.proofs.Layers.{tree-made}
 use Rattle.stan_expr.proofs.grammar.Grammar.post_with.Goals as goal
 

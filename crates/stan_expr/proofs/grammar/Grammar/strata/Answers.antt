@@ -1,7 +1,7 @@
 use Rattle.std.proofs.Common.{◌≡◌, ◌-◌, ◌+◌, arith}
 use Rattle.std.proofs.lemmas.Result.{err_from_is_err_and}
 use Rattle.stan_syntax.specs.Tree.{tree_of}
-use Rattle.stan_expr.specs.Parse.{below}
+use Rattle.stan_expr_rules.specs.Parse.{below}
 use Rattle.stan_expr.proofs.Loops.{operand_fails, stratum_fails}
 use Rattle.stan_expr.proofs.grammar.Grammar.strata.Goals as goal
 

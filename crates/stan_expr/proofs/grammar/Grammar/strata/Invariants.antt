@@ -1,6 +1,6 @@
 use Rattle.std.proofs.Common.{◌≡◌, ◌≤◌, max, ◌-◌, Some}
 use Rattle.stan_syntax.specs.Tree.{tree_of}
-use Rattle.stan_expr.specs.Parse.{strata, below}
+use Rattle.stan_expr_rules.specs.Parse.{strata, below}
 use Rattle.stan_expr.proofs.grammar.Grammar.strata.Given as goal
 
 abbrev pub invariant-loop-j : goal.invariant-loop-j

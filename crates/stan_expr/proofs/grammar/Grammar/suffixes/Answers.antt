@@ -1,7 +1,7 @@
 use Rattle.std.proofs.Common.{◌≡◌, ◌++◌, ◌∷◌, [], map}
 use Rattle.std.proofs.lemmas.List.{map_push}
 use Rattle.stan_syntax.specs.Tree.{suffix_of}
-use Rattle.stan_expr.specs.Parse.{suffix_at, below}
+use Rattle.stan_expr_rules.specs.Parse.{suffix_at, below}
 use Rattle.stan_expr.proofs.Loops.{loop_takes}
 use Rattle.stan_expr.proofs.grammar.Grammar.suffixes.Goals as goal
 

@@ -1,5 +1,5 @@
 use Rattle.std.proofs.Common.{◌∙◌, ap, sym}
-use Rattle.stan_base.specs.model.Names.{fold_name}
+use Rattle.stan_base.specs.Names.{fold_name}
 use Rattle.stan_table.proofs.Folding.{fold_name_twice}
 use Rattle.stan_table.proofs.ask.Ask.new.Goals as goal
 

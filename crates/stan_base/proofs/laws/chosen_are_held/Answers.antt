@@ -1,5 +1,0 @@
-use Rattle.stan_base.proofs.Orders.{Contains-chosen}
-use Rattle.stan_base.proofs.laws.chosen_are_held.Goals as goal
-
-pub returns : goal.returns
-returns c = λ paths contents path. Contains-chosen contents paths path

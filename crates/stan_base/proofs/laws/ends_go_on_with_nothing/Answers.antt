@@ -1,5 +1,0 @@
-use Rattle.stan_base.proofs.PhpTreeLemmas.{ends_join_none}
-use Rattle.stan_base.proofs.laws.ends_go_on_with_nothing.Goals as goal
-
-pub returns : goal.returns
-returns c = ends_join_none

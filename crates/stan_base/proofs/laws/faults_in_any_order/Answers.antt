@@ -1,5 +1,0 @@
-use Rattle.stan_base.proofs.Orders.{in_order_alike}
-use Rattle.stan_base.proofs.laws.faults_in_any_order.Goals as goal
-
-pub returns : goal.returns
-returns c = λ faults others same. in_order_alike faults others (λ fault. (same fault).0) (λ fault. (same fault).1)

@@ -1,5 +1,0 @@
-use Rattle.stan_base.proofs.PhpRunLemmas.{run_end_is_run}
-use Rattle.stan_base.proofs.laws.runs_end_where_the_test_fails.Goals as goal
-
-pub returns : goal.returns
-returns c = run_end_is_run

@@ -1,0 +1,9 @@
+pub mod InsideLemmas
+pub mod Law
+pub mod LawAtoms
+pub mod LawItems
+pub mod LawSteps
+pub mod Levels
+pub mod SizeLemmas
+pub mod Spelled
+pub mod TreeLemmas

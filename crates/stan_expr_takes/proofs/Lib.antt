@@ -1,0 +1,11 @@
+pub mod Cut
+pub mod Takes
+pub mod TakesAtoms
+pub mod TakesEnds
+pub mod TakesItems
+pub mod TakesKinds
+pub mod TakesLists
+pub mod TakesPatterns
+pub mod TakesStarts
+pub mod TakesStrata
+pub mod TakesViews

@@ -1,5 +1,0 @@
-use Rattle.stan_lexer.proofs.KindLemmas.{one_keyword}
-use Rattle.stan_lexer.proofs.joined.is_keyword.Goals as goal
-
-pub returns-in-Abstract : goal.returns-in-Abstract
-returns-in-Abstract c = one_keyword c.args.kind c.in-Abstract.is

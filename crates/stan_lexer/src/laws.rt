@@ -1,0 +1,23 @@
+//! Laws of the definitions: each is the contract of a function that does nothing.
+
+ghost use Rattle.stan_lexer.specs.Laws.{OneTokenList, TokensStandInOrder, LongestMarkIsRead, RunsEndWhereTheTestFails};
+
+/// A source has one list of tokens.
+pub fn one_token_list()
+    ensures { OneTokenList }
+{}
+
+/// Each token of a source stands within it, and ends before the later ones begin.
+pub fn tokens_stand_in_order()
+    ensures { TokensStandInOrder }
+{}
+
+/// No mark of the table that stands at a place is longer than the one that is read there.
+pub fn longest_mark_is_read()
+    ensures { LongestMarkIsRead }
+{}
+
+/// A run goes on while its places pass, and ends at the first one that fails, or at the end of the source.
+pub fn runs_end_where_the_test_fails()
+    ensures { RunsEndWhereTheTestFails }
+{}

@@ -1,0 +1,2 @@
+//! What of a file the rules speak of (`specs`).
+#![tactic(auto)]

@@ -1,0 +1,2 @@
+//! What the tree of a file declares (`specs`).
+#![tactic(auto)]

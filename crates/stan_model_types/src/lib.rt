@@ -1,0 +1,2 @@
+//! What files declare, and how a look-up by name is answered (`specs`).
+#![tactic(auto)]

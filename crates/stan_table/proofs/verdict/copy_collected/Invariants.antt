@@ -1,6 +1,0 @@
-use Rattle.std.proofs.Common.{◌≡◌, map, take}
-use Rattle.stan_table.specs.Table.{collected_of}
-use Rattle.stan_table.proofs.verdict.copy_collected.Given as goal
-
-abbrev pub invariant-loop-collected : goal.invariant-loop-collected
-invariant-loop-collected l = map collected_of l.copies.items ≡ map collected_of (take l.collected-index l.all)
