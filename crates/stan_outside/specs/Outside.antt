@@ -1,5 +1,5 @@
 -- What the traits of the outside say.
-use Rattle.std.specs.Prelude.{◌≡◌, ◌≢◌, ◌⊎◌, ℕ, ◌<◌, ◌^◌, ◌-◌, IsTrue, not, List, IsSome}
+use Rattle.std.specs.Prelude.{◌≡◌, ◌≢◌, ◌⊎◌, ℕ, ◌<◌, ◌+◌, ◌^◌, ◌-◌, min, IsTrue, not, List, IsSome}
 use Rattle.std.specs.List.{Contains, AllPairs, list_all}
 use Rattle.std.specs.FinMap as finite
 use Rattle.stan_outside.specs.Contents.{Contents, parts_of, is_proper_part}
@@ -9,6 +9,10 @@ use Rattle.std.specs.Prelude.{codes}
 -- A count rose, or stands where it can rise no more.
 abbrev pub Rose : ℕ → ℕ → Type 0
 Rose old new = (old < new) ⊎ (new ≡ 2 ^ 64 - 1)
+
+-- A count rose by a number, up to the end of the type.
+abbrev pub RoseBy : ℕ → ℕ → ℕ → Type 0
+RoseBy number old new = new ≡ min (old + number) (2 ^ 64 - 1)
 
 -- the paths of the files, each once, in any order
 pub record Lists (contents : Contents) (paths : List (List ℕ)) : Type 0 where

@@ -3,7 +3,7 @@
 ghost use Rattle.std.specs.Prelude.{◌≡◌, ◌≤◌, ◌+◌, IfOk, length, option_to_list, vec_len};
 ghost use Rattle.std.specs.FinMap as finite;
 ghost use Rattle.stan_outside.specs.Outside.{Rose};
-ghost use Rattle.stan_outside.specs.FolderTree.{folder_faults};
+ghost use Rattle.stan_outside.specs.FolderTree.{folder_faults, folder_listings, folder_reads};
 ghost use Rattle.stan_outside.specs.declared.fail.Fail.TheVariants as fails;
 ghost use Rattle.stan_outside.specs.declared.folder_tree.TheConstants.{MOST_NAMES};
 
@@ -29,13 +29,22 @@ const PIECE: usize = 16_384;
 pub struct FolderTree<'a, R: Files + AllocGlobal + Clone + Drop> {
     rt: &'a R,
     faults: u64,
+    listings: u64,
+    reads: u64,
 }
 
 impl<'a, R: Files + AllocGlobal + Clone + Drop> FolderTree<'a, R> {
     pub fn new(rt: &'a R) -> Self
-        ensures { folder_faults result ≡ 0 }
+        ensures faults { folder_faults result ≡ 0 }
+        ensures listings { folder_listings result ≡ 0 }
+        ensures reads { folder_reads result ≡ 0 }
     {
-        FolderTree { rt, faults: 0 }
+        FolderTree {
+            rt,
+            faults: 0,
+            listings: 0,
+            reads: 0,
+        }
     }
 }
 
@@ -46,11 +55,16 @@ impl<'a, R: Files + AllocGlobal + Clone + Drop> Tree for FolderTree<'a, R> {
 
     ghost faults = { folder_faults };
 
+    ghost listings = { folder_listings };
+
+    ghost reads = { folder_reads };
+
     ghost never_fails = { λ _. ⊥ };
 
     ghost proper = { λ _ told. absurd told };
 
     fn list(&mut self, alloc: Global) -> Result<Vec<String>, Fail> {
+        self.listings = self.listings.saturating_add(1);
         match list_files(self.rt, alloc) {
             Ok(paths) => Ok(paths),
             Err(error) => Err(fail_of(&error, &mut self.faults)),
@@ -58,6 +72,7 @@ impl<'a, R: Files + AllocGlobal + Clone + Drop> Tree for FolderTree<'a, R> {
     }
 
     fn read(&mut self, alloc: Global, path: &str, most: u32) -> Result<Vec<u8>, Fail> {
+        self.reads = self.reads.saturating_add(1);
         match read_front(self.rt, alloc, path, most as usize) {
             Ok(bytes) => Ok(bytes),
             Err(error) => Err(fail_of(&error, &mut self.faults)),

@@ -19,6 +19,3 @@ pub use paths::are_files;
 pub use sink::Sink;
 pub use stream_sink::StreamSink;
 pub use tree::Tree;
-
-#[cfg(test)]
-mod tests;

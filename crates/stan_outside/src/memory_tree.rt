@@ -4,7 +4,7 @@ ghost use Rattle.std.specs.Prelude.{◌≡◌, ◌<◌, ◌≢◌, ⊤, [], ◌�
 ghost use Rattle.std.specs.List.{AllWithin};
 ghost use Rattle.std.specs.FinMap as finite;
 ghost use Rattle.stan_outside.specs.Memory.{AreFiles, path_of, tree_contents};
-ghost use Rattle.stan_outside.specs.Outside.{Lists};
+ghost use Rattle.stan_outside.specs.Outside.{Lists, RoseBy};
 ghost use Rattle.stan_outside.specs.Calls.{AreNew, IsToFail, IsNextCall, CountsFaults};
 ghost use Rattle.stan_outside.specs.declared.fail.Fail.TheVariants as fails;
 
@@ -17,23 +17,29 @@ use std::alloc::{AllocError, Global};
 pub struct MemoryTree {
     files: Vec<(String, Vec<u8>)>,
     calls: Calls,
+    listings: u64,
+    reads: u64,
     // the place behind the file that was read last
     next: usize,
     ghost are_files: { AreFiles files.items },
 }
 
 impl MemoryTree {
-    ghost use Rattle.stan_outside.specs.MemoryTree.{memory_contents, tree_calls};
+    ghost use Rattle.stan_outside.specs.MemoryTree.{memory_contents, tree_calls, tree_listings, tree_reads};
 
     /// A tree of these files, each with its path. A call whose number is in `failing` fails.
     pub fn new(files: Vec<(String, Vec<u8>)>, failing: Vec<u64>) -> MemoryTree
         requires { AreFiles files.items }
         ensures contents { memory_contents result ≡ tree_contents files.items }
         ensures calls { AreNew failing.items (tree_calls result) }
+        ensures listings { tree_listings result ≡ 0 }
+        ensures reads { tree_reads result ≡ 0 }
     {
         MemoryTree {
             files,
             calls: Calls::new(failing),
+            listings: 0,
+            reads: 0,
             next: 0,
         }
     }
@@ -43,6 +49,20 @@ impl MemoryTree {
         ensures { result ≡ (tree_calls self.now).faults }
     {
         self.calls.faults
+    }
+
+    /// How many calls of `list` were made, up to the end of the type.
+    pub fn listings(&self) -> u64
+        ensures { result ≡ tree_listings self.now }
+    {
+        self.listings
+    }
+
+    /// How many calls of `read` were made, up to the end of the type.
+    pub fn reads(&self) -> u64
+        ensures { result ≡ tree_reads self.now }
+    {
+        self.reads
     }
 }
 
@@ -82,13 +102,17 @@ fn first_bytes(alloc: Global, bytes: &[u8], most: u32) -> Result<Vec<u8>, AllocE
 }
 
 impl Tree for MemoryTree {
-    ghost use Rattle.stan_outside.specs.MemoryTree.{memory_contents, tree_calls};
+    ghost use Rattle.stan_outside.specs.MemoryTree.{memory_contents, tree_calls, tree_listings, tree_reads};
 
     ghost tells = { λ _. ⊤ };
 
     ghost contents = { memory_contents };
 
     ghost faults = { λ tree. (tree_calls tree).faults };
+
+    ghost listings = { tree_listings };
+
+    ghost reads = { tree_reads };
 
     ghost never_fails = { λ tree. (tree_calls tree).failing.items ≡ [] };
 
@@ -98,10 +122,13 @@ impl Tree for MemoryTree {
     fn list(&mut self, alloc: Global) -> Result<Vec<String>, Fail>
         ensures fails { IsErrOf result fails.Failed ↔ IsToFail (tree_calls self.old) }
         ensures paths { IfOk result (λ paths. Lists (memory_contents self.old) (map string_bytes paths.items)) }
+        ensures listings { RoseBy 1 (tree_listings self.old) (tree_listings self.new) }
+        ensures reads { tree_reads self.new ≡ tree_reads self.old }
         ensures contents { memory_contents self.new ≡ memory_contents self.old }
         ensures next { IsNextCall (tree_calls self.old) (tree_calls self.new) }
         ensures faults { CountsFaults (IsErrOf result fails.Failed) (tree_calls self.old) (tree_calls self.new) }
     {
+        self.listings = self.listings.saturating_add(1);
         self.calls.begin()?;
         let mut paths = Vec::with_capacity(alloc, self.files.len())?;
         for (path, _) in &self.files {
@@ -114,10 +141,13 @@ impl Tree for MemoryTree {
         requires { IsSome (finite.get (memory_contents self.old) path.now) }
         ensures fails { IsErrOf result fails.Failed ↔ IsToFail (tree_calls self.old) }
         ensures bytes { IfOk result (λ bytes. IfSome (finite.get (memory_contents self.old) path.now) (λ all. bytes.items ≡ take most all)) }
+        ensures listings { tree_listings self.new ≡ tree_listings self.old }
+        ensures reads { RoseBy 1 (tree_reads self.old) (tree_reads self.new) }
         ensures contents { memory_contents self.new ≡ memory_contents self.old }
         ensures next { IsNextCall (tree_calls self.old) (tree_calls self.new) }
         ensures faults { CountsFaults (IsErrOf result fails.Failed) (tree_calls self.old) (tree_calls self.new) }
     {
+        self.reads = self.reads.saturating_add(1);
         self.calls.begin()?;
         let place = place_of(&self.files, self.next, path);
         self.next = place + 1;
