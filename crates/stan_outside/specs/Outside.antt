@@ -10,9 +10,9 @@ use Rattle.std.specs.Prelude.{codes}
 abbrev pub Rose : ℕ → ℕ → Type 0
 Rose old new = (old < new) ⊎ (new ≡ 2 ^ 64 - 1)
 
--- A count rose by a number, up to the end of the type.
+-- A count rose by a number, or by what was left up to the end of its type.
 abbrev pub RoseBy : ℕ → ℕ → ℕ → Type 0
-RoseBy number old new = new ≡ min (old + number) (2 ^ 64 - 1)
+RoseBy number old new = new ≡ old + min number ((2 ^ 64 - 1) - old)
 
 -- the paths of the files, each once, in any order
 pub record Lists (contents : Contents) (paths : List (List ℕ)) : Type 0 where
