@@ -37,12 +37,6 @@ module _ (ts : List Token) where
   pub inside_then : (at b to : ℕ) → Inside at b → Goes b to → Inside at to
   inside_then at b to i g = (omega (arith, i.0, g.0), goes_within b to i.1 g)
 
-  pub goes_then : (at b to : ℕ) → Goes at b → Goes b to → Goes at to
-  goes_then at b to f g = (
-    omega (arith, f.0, g.0),
-    λ lt. elim (cases_lt at b) [ inl some ↦ goes_within b to (f.1 some) g | inr none ↦ g.1 (omega (arith, none, lt)) ],
-  )
-
   -- A place where something stands is one of the list.
   kind_of_inside : (at : ℕ) (o : Option Token) → slice_get ts at ≡ o → kind_of o ≢ kinds.End → at < length ts
   kind_of_inside at None e some = absurd (some refl)

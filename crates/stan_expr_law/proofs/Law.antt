@@ -12,13 +12,13 @@ use Rattle.stan_model_grammar.specs.declared.operators.PrefixOperator.TheVariant
 use Rattle.stan_model_grammar.specs.declared.token.Token.{Token}
 use Rattle.stan_model_grammar.specs.declared.token.TokenKind.TheVariants as kinds
 use Rattle.stan_model_grammar.specs.Strata.{kind_at, loosest, prefix_stratum, binary_stratum, fixity, tighter}
-use Rattle.stan_model_grammar.specs.Trees.{Tree, node, Array, New, Post, Prefix, Assignment, Chain, Binary, Conditional, Steps, no_step, step, Operation}
-use Rattle.stan_model_grammar.specs.Expressions.{operation, Operates, Reads, Repeats, Spells, IsEnd}
-use Rattle.stan_expr_law.proofs.InsideLemmas.{reads_inside}
+use Rattle.stan_model_grammar.specs.Trees.{Tree, node, Array, New, Arrow, Post, Prefix, Assignment, Chain, Binary, Conditional, Steps, no_step, step, Operation}
+use Rattle.stan_model_grammar.specs.Expressions.{parameter, operation, Operates, Reads, Repeats, Spells, IsEnd}
+use Rattle.stan_expr_law.proofs.InsideLemmas.{reads_inside, items_go, may_goes, return_goes}
 use Rattle.stan_expr_rules.proofs.Greedy.{J, Near, Greedy, Picks, extend}
 use Rattle.stan_expr_law.proofs.Spelled.{Free}
 use Rattle.stan_expr_law.proofs.Levels.{Levels, no_level, level, takes_covered, takes_onward, Covered, covered_self, Going, scoped, operated, asked, mark, onward, side, left_side, other_side, other_onward, operator_bounds, double_colon_bounds, going_rises, assignment_joins, end_joins, goes_mark, goes_rises, Leads, Led, led_more, leads_within, led_within, leads_rise, led_up, led_out, led_over, leads_unassigned, by_suffixes, by_operations, by_operator, by_question, Picked, Law}
-use Rattle.stan_expr_law.proofs.LawItems.{ends_by, exact}
+use Rattle.stan_expr_law.proofs.LawItems.{ends_by, exact, items_picked}
 use Rattle.stan_expr_law.proofs.LawSteps.{new_picked}
 use Rattle.stan_expr_law.proofs.LawAtoms.{simple_picked, target_picked}
 
@@ -62,11 +62,11 @@ operator_apart binaries.Power = (λ e. omega arith, λ e. omega arith)
 operator_apart o = (λ e. omega arith, λ e. omega arith)
 
 abbrev is_operated : Going → Bool
-is_operated (operated o e) = true
+is_operated (operated sign o e) = true
 is_operated _ = false
 
 going_apart : (x : Going) (j : ℕ) → is_operated x ≡ false → 6 ≤ j → j ≢ 22 → mark x ≢ j
-going_apart (operated o e) j f lo apart q = true≢false f
+going_apart (operated sign o e) j f lo apart q = true≢false f
 going_apart (scoped t) j f lo apart q = let d = double_colon_bounds t.kind in omega (arith, d.1, q)
 going_apart (asked d e) j f lo apart q = apart (sym q)
 going_apart x j f lo apart q = omega (arith, q)
@@ -76,7 +76,7 @@ is_asked (asked d e) = true
 is_asked _ = false
 
 going_unasked : (x : Going) → is_asked x ≡ false → mark x ≢ 22
-going_unasked (operated o e) f q = let a = operator_apart o in a.0 q
+going_unasked (operated sign o e) f q = let a = operator_apart o in a.0 q
 going_unasked (scoped t) f q = let d = double_colon_bounds t.kind in omega (arith, d.1, q)
 going_unasked (asked d e) f q = true≢false f
 going_unasked x f q = omega (arith, q)
@@ -89,11 +89,11 @@ module _ (ts : List Token) where
   with_operations j t no_step at m o lo h i c apart = let P : ℕ → Type 0 = λ y. Greedy ts false (j - 1) t at y in (t, extend ts false j t at o apart (subst P c i))
   with_operations j (node u f) (step x xs) at m o lo h i c apart = (node u (Chain j (node u f) (step x xs)), (h.0, (m, lo, omega arith, tt, h, c, λ q. grind (arith, apart, q))))
 
-  with_operator : (j : ℕ) (t : Tree) (o : BinaryOperator) (x : Tree) (at b c to : ℕ) → binary_stratum o ≡ j → fixity o ≢ fixities.Left → Greedy ts false (j - 1) t at b → Operates ts o b c → Greedy ts false (side o) x c to → (g : Tree) × Greedy ts false j g at to
-  with_operator j (node u f) o x at b c to same other h i r =
+  with_operator : (j : ℕ) (t : Tree) (sign : Token) (o : BinaryOperator) (x : Tree) (at b c to : ℕ) → binary_stratum o ≡ j → fixity o ≢ fixities.Left → Greedy ts false (j - 1) t at b → Operates ts sign o b c → Greedy ts false (side o) x c to → (g : Tree) × Greedy ts false j g at to
+  with_operator j (node u f) sign o x at b c to same other h i r =
       let P : ℕ → Type 0 = λ y. Greedy ts false (y - 1) (node u f) at b in
       let Q : ℕ → Type 0 = λ y. Greedy ts false y x c to in
-      (node u (Binary (node u f) o x), (h.0, (b, c, omega (arith, same), other, subst P (sym same) h, i, subst Q (other_side (fixity o) (binary_stratum o) other) r, λ q. omega (arith, same, q))))
+      (node u (Binary (node u f) sign o x), (h.0, (b, c, omega (arith, same), other, subst P (sym same) h, i, subst Q (other_side (fixity o) (binary_stratum o) other) r, λ q. omega (arith, same, q))))
 
   module _ (n : ℕ) (law : Law ts n) where
     -- the operators of a chain of stratum j, as many as there are
@@ -103,23 +103,23 @@ module _ (ts : List Token) where
     operations_picked : (fuel : ℕ) (w : List Going) (j k : ℕ) (vs : Levels) (at to : ℕ) → 6 ≤ j → j ≤ loosest → j ≢ 22 → ((o : BinaryOperator) → binary_stratum o ≡ j → fixity o ≡ fixities.Left)
         → Leads ts w (level j k vs) at to → IsEnd ts to → to ≤ n + at → to ≤ fuel + at → Operated j k vs at to
     operations_picked fuel [] j k vs at to lo hi apart left l e le fe = (no_step, at, refl, end_apart at to j e l hi, ([], l))
-    operations_picked zero (operated o x ∷ w) j k vs at to lo hi apart left l e le fe =
-        let i = goes_rises ts (operated o x) at l.0 l.3 in
+    operations_picked zero (operated sign o x ∷ w) j k vs at to lo hi apart left l e le fe =
+        let i = goes_rises ts (operated sign o x) at l.0 l.3 in
         let r = leads_rise ts w l.1 l.0 to l.4 in
         absurd (omega (arith, i, r))
-    operations_picked (suc fuel) (operated o x ∷ w) j k vs at to lo hi apart left l e le fe =
+    operations_picked (suc fuel) (operated sign o x ∷ w) j k vs at to lo hi apart left l e le fe =
         elim (eqb_tells (binary_stratum o) j) [
           | inl same ↦
               let b = operator_bounds o in
               let s = l.3.1.1 in
               let p = law (side o) l.3.0 l.0 to l.1 x b.2 (omega (arith, b.3)) l.3.2 (w, l.4) e (omega (arith, s)) in
               let i = reads_inside ts (Near ts) p.0 false (side o) l.3.0 p.1 p.2 in
-              let again = led_more ts l.1 (level j k vs) p.1 to (takes_covered (level j k vs) (binary_stratum o) (onward (operated o x)) l.1 (going_rises (operated o x)) l.2) p.3 in
+              let again = led_more ts l.1 (level j k vs) p.1 to (takes_covered (level j k vs) (binary_stratum o) (onward (operated sign o x)) l.1 (going_rises (operated sign o x)) l.2) p.3 in
               let r = operations_picked fuel again.0 j k vs p.1 to lo hi apart left again.1 e (omega (arith, i.0, s)) (omega (arith, i.0, s)) in
               let f = left o same.1 in
               let P : ℕ → Type 0 = λ y. Greedy ts false y p.0 l.3.0 p.1 in
-              (step (Operation o p.0) r.0, r.1, (p.1, (l.3.0, (same.1, f), l.3.1, subst P (left_side (fixity o) (binary_stratum o) f) p.2), r.2), r.3, r.4)
-          | inr other ↦ (no_step, at, refl, (λ q. other.1 (sym (goes_mark ts (operated o x) at l.0 l.3) ∙ q)), (operated o x ∷ w, l))
+              (step (Operation sign o p.0) r.0, r.1, (p.1, (l.3.0, (same.1, f), l.3.1, subst P (left_side (fixity o) (binary_stratum o) f) p.2), r.2), r.3, r.4)
+          | inr other ↦ (no_step, at, refl, (λ q. other.1 (sym (goes_mark ts (operated sign o x) at l.0 l.3) ∙ q)), (operated sign o x ∷ w, l))
         ]
     operations_picked fuel (x ∷ w) j k vs at to lo hi apart left l e le fe =
         (no_step, at, refl, (λ q. going_apart x j refl lo apart (sym (goes_mark ts x at l.0 l.3) ∙ q)), (x ∷ w, l))
@@ -136,30 +136,30 @@ module _ (ts : List Token) where
         let c = with_operations j g r.0 at o r.1 lo h i r.2 r.3 in
         (c.0, r.1, c.1, led_up ts j k vs r.1 to (omega arith) r.3 r.4)
 
-    operator_picked : (j k : ℕ) (vs : Levels) (at to : ℕ) (g : Tree) (m : ℕ) (o : BinaryOperator) (x : Tree) (w : List Going) → binary_stratum o ≡ j → fixity o ≢ fixities.Left
-        → Greedy ts false (j - 1) g at m → Leads ts (operated o x ∷ w) (level j k vs) m to → IsEnd ts to → to ≤ suc n + at → Picked ts j (level (j + 1) k vs) at to
-    operator_picked j k vs at to g m o x w same other h l e le =
+    operator_picked : (j k : ℕ) (vs : Levels) (at to : ℕ) (g : Tree) (m : ℕ) (sign : Token) (o : BinaryOperator) (x : Tree) (w : List Going) → binary_stratum o ≡ j → fixity o ≢ fixities.Left
+        → Greedy ts false (j - 1) g at m → Leads ts (operated sign o x ∷ w) (level j k vs) m to → IsEnd ts to → to ≤ suc n + at → Picked ts j (level (j + 1) k vs) at to
+    operator_picked j k vs at to g m sign o x w same other h l e le =
         let a = reads_inside ts (Near ts) g false (j - 1) at m h in
         let b = operator_bounds o in
         let p = law (side o) l.3.0 l.0 to l.1 x b.2 (omega (arith, b.3)) l.3.2 (w, l.4) e (omega (arith, a.0, l.3.1.1)) in
-        let c = with_operator j g o p.0 at m l.3.0 p.1 same other h l.3.1 p.2 in
-        let on : onward (operated o x) ≡ j + 1 = omega (arith, other_onward (fixity o) (binary_stratum o) other, same) in
+        let c = with_operator j g sign o p.0 at m l.3.0 p.1 same other h l.3.1 p.2 in
+        let on : onward (operated sign o x) ≡ j + 1 = omega (arith, other_onward (fixity o) (binary_stratum o) other, same) in
         let P : ℕ → Type 0 = λ y. Covered l.1 (level y k vs) in
-        let covered = subst P on (takes_onward j k vs (binary_stratum o) (onward (operated o x)) l.1 (going_rises (operated o x)) l.2) in
+        let covered = subst P on (takes_onward j k vs (binary_stratum o) (onward (operated sign o x)) l.1 (going_rises (operated sign o x)) l.2) in
         (c.0, p.1, c.1, led_more ts l.1 (level (j + 1) k vs) p.1 to covered p.3)
 
     stage_by : (j k : ℕ) (vs : Levels) (at to : ℕ) (g : Tree) (o : ℕ) (w : List Going) → 6 ≤ j → j ≤ loosest → j ≢ 22 → j ≢ 23 → Greedy ts false (j - 1) g at o → Leads ts w (level j k vs) o to → IsEnd ts to → to ≤ suc n + at
         → Picked ts j (level (j + 1) k vs) at to
     stage_by j k vs at to g o [] lo hi a22 a23 h l e le = picked_on j k vs at to g o lo h (end_apart o to j e l hi) ([], l)
-    stage_by j k vs at to g o (operated q x ∷ w) lo hi a22 a23 h l e le =
+    stage_by j k vs at to g o (operated sign q x ∷ w) lo hi a22 a23 h l e le =
         elim (eqb_tells (binary_stratum q) j) [
           | inl same ↦ elim (left_or_not (fixity q)) [
             | inl left ↦
                 let P : ℕ → Type 0 = λ y. Greedy ts false y g at o in
-                chain_picked j k vs at to g o lo hi a22 (λ r i. left_too q r j same.1 left i) (subst P (sym (tighter_is j a23)) h) h (operated q x ∷ w, l) e le
-            | inr other ↦ operator_picked j k vs at to g o q x w same.1 other h l e le
+                chain_picked j k vs at to g o lo hi a22 (λ r i. left_too q r j same.1 left i) (subst P (sym (tighter_is j a23)) h) h (operated sign q x ∷ w, l) e le
+            | inr other ↦ operator_picked j k vs at to g o sign q x w same.1 other h l e le
           ]
-          | inr apart ↦ picked_on j k vs at to g o lo h (λ i. apart.1 (sym (goes_mark ts (operated q x) o l.0 l.3) ∙ i)) (operated q x ∷ w, l)
+          | inr apart ↦ picked_on j k vs at to g o lo h (λ i. apart.1 (sym (goes_mark ts (operated sign q x) o l.0 l.3) ∙ i)) (operated sign q x ∷ w, l)
         ]
     stage_by j k vs at to g o (x ∷ w) lo hi a22 a23 h l e le = picked_on j k vs at to g o lo h (λ i. going_apart x j refl lo a22 (sym (goes_mark ts x o l.0 l.3) ∙ i)) (x ∷ w, l)
 
@@ -258,6 +258,22 @@ module _ (ts : List Token) where
         let other = leads_unassigned ts r.6.0 vs r.3 to (omega (arith, j)) r.6.1 in
         let g : Greedy ts false 5 (node t (New r.0 r.1)) at r.3 = (h.0, (r.2, omega arith, h.1.2, r.4, r.5, λ q. grind (arith, other, q))) in
         finish 5 k vs at to (omega arith) (λ q. omega (arith, q)) lo hi (node t (New r.0 r.1), r.3, g, led_within ts 6 k vs r.3 to r.6) e le
+    level_picked (node t (Arrow static reference parameters type x)) k at m to vs lo hi h l e le =
+        let j = end_joins ts to e in
+        let rise = leads_rise ts l.0 vs m to l.1 in
+        let f = h.1 in
+        let p = f.7 in
+        let a = may_goes ts static kinds.Static (λ q. cc) at f.0 f.4 in
+        let b = may_goes ts reference kinds.Ampersand (λ q. cc) (f.0 + 1) f.1 f.6 in
+        let c = items_go ts Free parameters parameter (f.1 + 1) p.0 p.2 in
+        let d = return_goes ts type f.2 f.3 f.8 in
+        let i = reads_inside ts Free x false loosest (f.3 + 1) m f.10 in
+        let r = items_picked ts n law parameters parameter (f.1 + 1) p.0 p.2 (ends_by ts kinds.RightParenthesis p.0 p.3 refl) (omega (arith, a.0, b.0, p.4, d.0, i.0, rise)) in
+        let v = law loosest (f.3 + 1) m to vs x (omega arith) (omega arith) f.10 l e (omega (arith, a.0, b.0, c.0, p.4, d.0)) in
+        let other = leads_unassigned ts v.3.0 vs v.1 to (omega (arith, j)) v.3.1 in
+        let whole = node t (Arrow static reference r.0 type v.0) in
+        let g : Greedy ts false 5 whole at v.1 = (h.0, (f.0, f.1, f.2, f.3, f.4, f.5, f.6, (p.0, p.1, r.1, p.3, p.4), f.8, f.9, v.2, λ q. grind (arith, other, q), omega arith)) in
+        finish 5 k vs at to (omega arith) (λ q. omega (arith, q)) lo hi (whole, v.1, g, led_within ts 6 k vs v.1 to v.3) e le
     level_picked (node t (Post x ss)) k at m to vs lo hi h l e le =
         let v = by_suffixes ts ss k vs h.1.0 m to l.0 (omega arith) h.1.4 l.1 in
         finish 5 k vs at to (omega arith) (λ q. omega (arith, q)) lo hi (simple_picked ts n law x k v.0 vs at h.1.0 to h.1.3 v.1 e le) e le
@@ -296,7 +312,7 @@ module _ (ts : List Token) where
     level_picked (node t (Binary d sign o x)) k at m to vs lo hi h l e le =
         let f = h.1 in
         let b = operator_bounds o in
-        let v = by_operator ts o x k vs f.0 f.1 m to f.2 f.3 f.5 f.6 l in
+        let v = by_operator ts sign o x k vs f.0 f.1 m to f.2 f.3 f.5 f.6 l in
         let p = level_picked d (binary_stratum o - 1) at f.0 to (level (binary_stratum o) k vs) (omega (arith, b.0)) (omega (arith, b.1)) f.4 v e le in
         let q : binary_stratum o ≡ binary_stratum o - 1 + 1 = omega (arith, b.0) in
         let R : ℕ → Type 0 = λ y. Picked ts (binary_stratum o - 1) (level y k vs) at to in

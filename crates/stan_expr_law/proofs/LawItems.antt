@@ -40,7 +40,7 @@ module _ (ts : List Token) where
   ends_at : (at to : ℕ) → at ≡ to → IsEnd ts to → IsEnd ts at
   ends_at at to h e = let P : ℕ → Type 0 = λ y. IsEnd ts y in subst P (sym h) e
 
-  no_further : (x : Step) (sort : ItemSort) (at to : ℕ) → is_further x ≡ false → StepReads ts Free (further sort) x at to → ⊥
+  pub no_further : (x : Step) (sort : ItemSort) (at to : ℕ) → is_further x ≡ false → StepReads ts Free (further sort) x at to → ⊥
   no_further Push sort at to e h = h.0
   no_further (Index x) sort at to e h = h.0
   no_further (Property nullsafe name es) sort at to e h = h.1

@@ -16,7 +16,7 @@ variable_or_not : (kind : TokenKind) → (kind ≡ kinds.Variable) ⊎ (double_c
 variable_or_not kinds.Variable = inl refl
 variable_or_not kind = inr refl
 
-abbrev is_call : Step → Bool
+abbrev pub is_call : Step → Bool
 is_call (Call es) = true
 is_call _ = false
 
@@ -27,7 +27,7 @@ is_called _ = false
 called_or_above : (x : Going) → is_called x ≡ false → 1 < mark x
 called_or_above (called es) e = absurd (true≢false e)
 called_or_above (scoped t) e = let d = double_colon_bounds t.kind in omega (arith, d.0)
-called_or_above (operated o x) e = let b = operator_bounds o in omega (arith, b.0)
+called_or_above (operated sign o x) e = let b = operator_bounds o in omega (arith, b.0)
 called_or_above x e = omega arith
 
 module _ (ts : List Token) where
@@ -38,28 +38,28 @@ module _ (ts : List Token) where
   leads_again x w vs at to l = leads_more ts w l.1 vs l.0 to (takes_covered vs (stratum x) (onward x) l.1 (going_rises x) l.2) l.4
 
   -- a step that is no call does not begin as one
-  call_or_above : (x : Step) (at to : ℕ) → is_call x ≡ false → StepReads ts (Near ts) suffix x at to → 1 < J ts at
-  call_or_above Push at to e h = let m : J ts at ≡ 3 = rw h.1 refl in omega (arith, m)
-  call_or_above (Index x) at to e h = let m : J ts at ≡ 3 = rw h.1.1 refl in omega (arith, m)
-  call_or_above (Property nullsafe name es) at to e h = let m : J ts at ≡ 3 = rw h.2 (arrow_joins nullsafe (kind_at ts (at + 1))) in omega (arith, m)
-  call_or_above (Scoped t es) at to e h =
+  pub call_or_above : (Stops : ℕ → ℕ → ℕ → Type 0) (x : Step) (at to : ℕ) → is_call x ≡ false → StepReads ts Stops suffix x at to → 1 < J ts at
+  call_or_above Stops Push at to e h = let m : J ts at ≡ 3 = rw h.1 refl in omega (arith, m)
+  call_or_above Stops (Index x) at to e h = let m : J ts at ≡ 3 = rw h.1.1 refl in omega (arith, m)
+  call_or_above Stops (Property nullsafe name es) at to e h = let m : J ts at ≡ 3 = rw h.2 (arrow_joins nullsafe (kind_at ts (at + 1))) in omega (arith, m)
+  call_or_above Stops (Scoped t es) at to e h =
       let m : J ts at ≡ double_colon (kind_at ts (at + 1)) = rw h.1 refl in
       let d = double_colon_bounds (kind_at ts (at + 1)) in
       omega (arith, m, d.0)
-  call_or_above (Call es) at to e h = absurd (true≢false e)
-  call_or_above Increment at to e h = let m : J ts at ≡ 4 = rw h.1 refl in omega (arith, m)
-  call_or_above Decrement at to e h = let m : J ts at ≡ 4 = rw h.1 refl in omega (arith, m)
-  call_or_above (Operation sign o x) at to e h = absurd h.1
-  call_or_above (Part t) at to e h = absurd h.0
-  call_or_above (Inserted x) at to e h = absurd h.0
-  call_or_above (Further x) at to e h = absurd h
+  call_or_above Stops (Call es) at to e h = absurd (true≢false e)
+  call_or_above Stops Increment at to e h = let m : J ts at ≡ 4 = rw h.1 refl in omega (arith, m)
+  call_or_above Stops Decrement at to e h = let m : J ts at ≡ 4 = rw h.1 refl in omega (arith, m)
+  call_or_above Stops (Operation sign o x) at to e h = absurd h.1
+  call_or_above Stops (Part t) at to e h = absurd h.0
+  call_or_above Stops (Inserted x) at to e h = absurd h.0
+  call_or_above Stops (Further x) at to e h = absurd h
 
   -- A call behind a name is its arguments.
   behind_name : (gs : Steps) (at to : ℕ) → Repeats ts (Near ts) suffix gs at to → Past to
       → (fs : Arguments) × (hs : Steps) × (c : ℕ) × MayBeCalled ts (Near ts) true fs at c × Repeats ts (Near ts) suffix hs c to × ((v : Bool) → places (v && is_without fs) hs ≡ places (v && true) gs)
   behind_name no_step at to h past = let e = ap (J ts) h in (no_arguments, no_step, at, (refl, λ q r. omega (arith, e)), h, λ v. refl)
   behind_name (step (Call es) gs) at to h past = (arguments es, gs, h.0, (refl, h.1.1), h.2, λ v. ap (λ y. places y gs) (and_false v))
-  behind_name (step x gs) at to h past = let m = call_or_above x at h.0 refl h.1 in (no_arguments, step x gs, at, (refl, λ q r. m), h, λ v. refl)
+  behind_name (step x gs) at to h past = let m = call_or_above (Near ts) x at h.0 refl h.1 in (no_arguments, step x gs, at, (refl, λ q r. m), h, λ v. refl)
 
   module _ (n : ℕ) (law : Law ts n) where
     abbrev pub Suffixed : List Going → ℕ → Levels → ℕ → ℕ → Type 0
@@ -112,10 +112,10 @@ module _ (ts : List Token) where
         let i = goes_rises ts decreased at l.0 l.3 in
         let r = suffixes_picked w k vs l.0 to past (leads_again decreased w (level 1 k vs) at to l) (omega (arith, i)) in
         (step Decrement r.0, r.1, r.2, (l.0, (tt, l.3.0, l.3.1), r.3), r.4, r.5, λ b. r.6 false)
-    suffixes_picked (operated o x ∷ w) k vs at to past l le =
-        let m = goes_mark ts (operated o x) at l.0 l.3 in
+    suffixes_picked (operated sign o x ∷ w) k vs at to past l le =
+        let m = goes_mark ts (operated sign o x) at l.0 l.3 in
         let b = operator_bounds o in
-        (no_step, at, operated o x ∷ w, refl, omega (arith, m, b.0), l, λ c. refl)
+        (no_step, at, operated sign o x ∷ w, refl, omega (arith, m, b.0), l, λ c. refl)
     suffixes_picked (asked d x ∷ w) k vs at to past l le = let m = goes_mark ts (asked d x) at l.0 l.3 in (no_step, at, asked d x ∷ w, refl, omega (arith, m), l, λ c. refl)
 
     abbrev pub Called : List Going → Levels → ℕ → ℕ → Type 0
@@ -171,7 +171,7 @@ module _ (ts : List Token) where
     class_suffixes_picked (called es ∷ w) vs at to past l le = class_stops (called es) w vs at to l (λ q. absurd (omega (arith, q)))
     class_suffixes_picked (increased ∷ w) vs at to past l le = class_stops increased w vs at to l (λ q. omega arith)
     class_suffixes_picked (decreased ∷ w) vs at to past l le = class_stops decreased w vs at to l (λ q. omega arith)
-    class_suffixes_picked (operated o x ∷ w) vs at to past l le = let b = operator_bounds o in class_stops (operated o x) w vs at to l (λ q. omega (arith, b.0))
+    class_suffixes_picked (operated sign o x ∷ w) vs at to past l le = let b = operator_bounds o in class_stops (operated sign o x) w vs at to l (λ q. omega (arith, b.0))
     class_suffixes_picked (asked d x ∷ w) vs at to past l le = class_stops (asked d x) w vs at to l (λ q. omega arith)
 
     -- its own ones, and then those of a tail
@@ -258,7 +258,7 @@ module _ (ts : List Token) where
           | inl v ↦ scoped_class t u w vs at b to past h l v le
           | inr four ↦ named_stops t (scoped u) w vs at b to past h l (λ q. omega (arith, four, q)) le
         ]
-    named_class t (operated o x ∷ w) vs at b to past h l le = let c = operator_bounds o in named_stops t (operated o x) w vs at b to past h l (λ q. omega (arith, c.0, q)) le
+    named_class t (operated sign o x ∷ w) vs at b to past h l le = let c = operator_bounds o in named_stops t (operated sign o x) w vs at b to past h l (λ q. omega (arith, c.0, q)) le
     named_class t (x ∷ w) vs at b to past h l le = named_stops t x w vs at b to past h l (λ q. omega (arith, q)) le
 
     class_open : (class : ClassReference) (vs : Levels) (at b to : ℕ) → Past to → Classes ts Free class at b → Led ts vs b to → to ≤ n + at → Made vs at to

@@ -83,7 +83,8 @@ pub data Going : Type 0 where
   called : Items → Going
   increased : Going
   decreased : Going
-  operated : BinaryOperator → Tree → Going
+  -- with the token at which the operator begins
+  operated : Token → BinaryOperator → Tree → Going
   asked : Tree → Tree → Going
 
 -- the stratum in which its first token goes on
@@ -95,12 +96,12 @@ mark (scoped t) = double_colon t.kind
 mark (called es) = 1
 mark increased = 4
 mark decreased = 4
-mark (operated o e) = binary_stratum o
+mark (operated sign o e) = binary_stratum o
 mark (asked d e) = 22
 
 -- the stratum of the level that takes it: all that is appended is one
 abbrev pub stratum : Going → ℕ
-stratum (operated o e) = binary_stratum o
+stratum (operated sign o e) = binary_stratum o
 stratum (asked d e) = 22
 stratum _ = 1
 
@@ -110,7 +111,7 @@ onward_of _ j = j + 1
 
 -- the first stratum in which the level could go on behind it
 abbrev pub onward : Going → ℕ
-onward (operated o e) = onward_of (fixity o) (binary_stratum o)
+onward (operated sign o e) = onward_of (fixity o) (binary_stratum o)
 onward (asked d e) = 24
 onward _ = 1
 
@@ -187,7 +188,7 @@ going_bounds (scoped t) = let d = double_colon_bounds t.kind in inl (refl, refl,
 going_bounds (called es) = inl (refl, refl, omega arith, omega arith)
 going_bounds increased = inl (refl, refl, omega arith, omega arith)
 going_bounds decreased = inl (refl, refl, omega arith, omega arith)
-going_bounds (operated o e) = let b = operator_bounds o in inr (refl, b.0, b.1, onward_rises (fixity o) (binary_stratum o))
+going_bounds (operated sign o e) = let b = operator_bounds o in inr (refl, b.0, b.1, onward_rises (fixity o) (binary_stratum o))
 going_bounds (asked d e) = inr (refl, omega arith, omega arith, omega arith)
 
 pub going_rises : (x : Going) → stratum x ≤ onward x
@@ -266,7 +267,7 @@ module _ (ts : List Token) where
   Goes (called es) at to = Between ts kinds.LeftParenthesis (Lists ts Free argument es) kinds.RightParenthesis at to
   Goes increased at to = Is ts at kinds.Increment × (to ≡ at + 1)
   Goes decreased at to = Is ts at kinds.Decrement × (to ≡ at + 1)
-  Goes (operated o e) at to = (b : ℕ) × Operates ts o at b × Reads ts Free false (side o) e b to
+  Goes (operated sign o e) at to = (b : ℕ) × Operates ts sign o at b × Reads ts Free false (side o) e b to
   Goes (asked d e) at to = (b : ℕ) × Is ts at kinds.Question × Reads ts Free false loosest d (at + 1) b × Is ts b kinds.Colon × Reads ts Free false 21 e (b + 1) to
 
   pub goes_mark : (x : Going) (at to : ℕ) → Goes x at to → J ts at ≡ mark x
@@ -277,7 +278,7 @@ module _ (ts : List Token) where
   goes_mark (called es) at to h = rw h.1 refl
   goes_mark increased at to h = rw h.0 refl
   goes_mark decreased at to h = rw h.0 refl
-  goes_mark (operated o e) at to h = operator_joins (kind_at ts at) (kind_at ts (at + 1)) o h.1.0
+  goes_mark (operated sign o e) at to h = operator_joins (kind_at ts at) (kind_at ts (at + 1)) o h.1.0
   goes_mark (asked d e) at to h = rw h.1 (question_joins (kind_at ts (at + 1)) (λ q. begins d false loosest (at + 1) h.0 h.2 q))
 
   pub goes_rises : (x : Going) (at to : ℕ) → Goes x at to → at < to
@@ -288,7 +289,7 @@ module _ (ts : List Token) where
   goes_rises (called es) at to h = let r = items_go ts Free es argument (at + 1) h.0 h.2 in omega (arith, r.0, h.4)
   goes_rises increased at to h = omega (arith, h.1)
   goes_rises decreased at to h = omega (arith, h.1)
-  goes_rises (operated o e) at to h = let r = reads_inside ts Free e false (side o) h.0 to h.2 in omega (arith, r.0, h.1.1)
+  goes_rises (operated sign o e) at to h = let r = reads_inside ts Free e false (side o) h.0 to h.2 in omega (arith, r.0, h.1.1)
   goes_rises (asked d e) at to h =
       let r = reads_inside ts Free d false loosest (at + 1) h.0 h.2 in
       let s = reads_inside ts Free e false 21 (h.0 + 1) to h.4 in
@@ -412,14 +413,14 @@ module _ (ts : List Token) where
       let r = by_operations ss j k vs h.0 m to le h.2 l in
       let on = left_onward (fixity o) (binary_stratum o) h.1.1.1 in
       let P : ℕ → Type 0 = λ y. Reads ts Free false y e h.1.0 h.0 in
-      let within : Covered (level j k vs) (level (onward (operated o e)) k vs) = inr (omega (arith, on, h.1.1.0), omega arith, covered_self vs) in (
-        operated o e ∷ r.0,
+      let within : Covered (level j k vs) (level (onward (operated sign o e)) k vs) = inr (omega (arith, on, h.1.1.0), omega arith, covered_self vs) in (
+        operated sign o e ∷ r.0,
         (
           h.0,
-          level (onward (operated o e)) k vs,
+          level (onward (operated sign o e)) k vs,
           inl (omega (arith, h.1.1.0), omega (arith, h.1.1.0, le), refl),
           (h.1.0, h.1.2, subst P (sym (left_side (fixity o) (binary_stratum o) h.1.1.1)) h.1.3),
-          leads_more r.0 (level j k vs) (level (onward (operated o e)) k vs) h.0 to within r.1,
+          leads_more r.0 (level j k vs) (level (onward (operated sign o e)) k vs) h.0 to within r.1,
         ),
       )
   by_operations (step Push ss) j k vs at m to le h l = absurd h.1.0
@@ -434,17 +435,17 @@ module _ (ts : List Token) where
   by_operations (step (Further x) ss) j k vs at m to le h l = absurd h.1
 
   -- an operator that is in no chain, and what follows
-  pub by_operator : (o : BinaryOperator) (e : Tree) (k : ℕ) (vs : Levels) (at b m to : ℕ) → binary_stratum o ≤ k → fixity o ≢ fixities.Left → Operates ts o at b
+  pub by_operator : (sign : Token) (o : BinaryOperator) (e : Tree) (k : ℕ) (vs : Levels) (at b m to : ℕ) → binary_stratum o ≤ k → fixity o ≢ fixities.Left → Operates ts sign o at b
       → Reads ts Free false (right_side (fixity o) (binary_stratum o)) e b m → Led vs m to → Led (level (binary_stratum o) k vs) at to
-  by_operator o e k vs at b m to le other h r l =
+  by_operator sign o e k vs at b m to le other h r l =
       let P : ℕ → Type 0 = λ y. Reads ts Free false y e b m in (
-        operated o e ∷ l.0,
+        operated sign o e ∷ l.0,
         (
           m,
-          level (onward (operated o e)) k vs,
+          level (onward (operated sign o e)) k vs,
           inl (omega arith, le, refl),
           (b, h, subst P (sym (other_side (fixity o) (binary_stratum o) other)) r),
-          leads_within l.0 (onward (operated o e)) k vs m to l.1,
+          leads_within l.0 (onward (operated sign o e)) k vs m to l.1,
         ),
       )
 

@@ -66,6 +66,7 @@ module _ (ts : List Token) (Stops : ℕ → ℕ → ℕ → Type 0) where
       h.9,
       reads_spell e false loosest (h.3 + 1) to h.10,
       tt,
+      h.12,
     )
     form_spells (Text parts) p k at to h = ((h.0.0, h.0.1, steps_spell parts part (at + 1) h.0.0 h.0.2, h.0.3, h.0.4), tt)
     form_spells (Post e ss) p k at to h = (h.0, h.1, h.2, reads_spell e false 0 at h.0 h.3, steps_spell ss suffix h.0 to h.4, tt)

@@ -8,16 +8,13 @@ use Rattle.stan_model_grammar.specs.Trees.{Tree}
 use Rattle.stan_model_grammar.specs.Takes.{takes, More, IsTreeOf}
 
 -- Of two lists at most one takes more than the other.
-pub more_one_way : (xs ys : List ℕ) → More xs ys → More ys xs → ⊥
+more_one_way : (xs ys : List ℕ) → More xs ys → More ys xs → ⊥
 more_one_way [] ys h i = h
 more_one_way (x ∷ xs) [] h i = h
 more_one_way (x ∷ xs) (y ∷ ys) (inl h) (inl i) = omega (arith, h, i)
 more_one_way (x ∷ xs) (y ∷ ys) (inl h) (inr i) = omega (arith, h, i.0)
 more_one_way (x ∷ xs) (y ∷ ys) (inr h) (inl i) = omega (arith, h.0, i)
 more_one_way (x ∷ xs) (y ∷ ys) (inr h) (inr i) = more_one_way xs ys h.1 i.1
-
-pub more_than_itself : (xs : List ℕ) → More xs xs → ⊥
-more_than_itself xs h = more_one_way xs xs h h
 
 pub one_tree : (ts : List Token) (t u : Tree) (at to : ℕ) → IsTreeOf ts t at to → IsTreeOf ts u at to → t ≡ u
 one_tree ts t u at to h i =

@@ -1,6 +1,6 @@
 //! Laws of the definitions: each is the contract of a function that does nothing.
 
-ghost use Rattle.stan_expr_law.specs.Laws.{TreesSpellTheirSize, TreesStandInTheTokens, OneTreeOfTokens, EndsGoOnWithNothing};
+ghost use Rattle.stan_expr_law.specs.Laws.{TreesSpellTheirSize, TreesStandInTheTokens, OneTreeOfTokens, EndsGoOnWithNothing, CalledNamesAreSites};
 
 /// An expression's tree spells as many tokens as its size says.
 pub fn trees_spell_their_size()
@@ -20,4 +20,9 @@ pub fn one_tree_of_tokens()
 /// A token that ends an expression goes on with none, whatever stands behind it.
 pub fn ends_go_on_with_nothing()
     ensures { EndsGoOnWithNothing }
+{}
+
+/// The sites of an expression are all names that are called in it and the held bodies, in order.
+pub fn called_names_are_sites()
+    ensures { CalledNamesAreSites }
 {}
