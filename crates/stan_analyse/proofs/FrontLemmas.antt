@@ -11,7 +11,7 @@ use Rattle.stan_model_grammar.specs.Strata.{kind_of, kind_at}
 use Rattle.stan_model_grammar.specs.Expressions.{Is, Stands}
 use Rattle.stan_model_grammar.specs.Files.{Statements, Top, Function, Plain, Closing, goes_on, ReadsTops}
 use Rattle.stan_model_facts.specs.Facts.{calls_of_top}
-use Rattle.stan_expr_law.proofs.InsideLemmas.{kind_inside}
+use Rattle.stan_expr_rules.proofs.InsideLemmas.{kind_inside}
 use Rattle.stan_expr_rules.specs.Places.{after}
 use Rattle.stan_expr_greedy.proofs.Reading.{after_is, after_none}
 use Rattle.stan_analyse.specs.declared.parser.Front.TheVariants.{Part}

@@ -11,7 +11,7 @@ use Rattle.stan_model_grammar.specs.Sites.{HeldBody, sites, bodies_among}
 use Rattle.stan_model_grammar.specs.Files.{Statement, Expression, Statements, no_statement, statement, Bodies, no_body, body, Top, Function, Plain, Closing, ends_statement, ReadsStatement, ReadsStatements, ReadsBodies, ReadsTop, ReadsTops, SpellsFile, IsFront, IsLongestFront, goes_on}
 use Rattle.stan_expr.proofs.Answer.{one_end}
 use Rattle.stan_expr_law.proofs.TreeLemmas.{one_tree}
-use Rattle.stan_expr_law.proofs.InsideLemmas.{tree_inside, kind_inside, is_inside}
+use Rattle.stan_expr_rules.proofs.InsideLemmas.{tree_inside, kind_inside, is_inside}
 use Rattle.stan_analyse.specs.Statements.{push}
 use Rattle.stan_analyse.proofs.Starts.{starts, tree_starts}
 

@@ -13,7 +13,7 @@ use Rattle.stan_model_grammar.specs.Takes.{IsTreeOf}
 use Rattle.stan_model_grammar.specs.Sites.{HeldBody, Site, CallSite, BodySite, sites, calls_among, bodies_among}
 use Rattle.stan_model_grammar.specs.Files.{Statement, Expression, Statements, no_statement, statement, Bodies, no_body, body, ends_statement, ReadsStatement, ReadsStatements, ReadsBodies}
 use Rattle.stan_model_facts.specs.Facts.{calls_of_statement, calls_of_statements, calls_of_bodies}
-use Rattle.stan_expr_law.proofs.InsideLemmas.{tree_inside, kind_inside}
+use Rattle.stan_expr_rules.proofs.InsideLemmas.{tree_inside, kind_inside}
 use Rattle.stan_expr_law.proofs.TreeLemmas.{one_tree}
 use Rattle.stan_expr.proofs.Answer.{one_end}
 use Rattle.stan_analyse.specs.declared.sites.HeldBody as held_body

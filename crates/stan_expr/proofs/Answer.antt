@@ -10,7 +10,7 @@ use Rattle.stan_model_grammar.specs.Trees.{Tree}
 use Rattle.stan_expr.specs.Answer.{TokensHaveATree, ExpressionsEndAtOnePlace}
 use Rattle.stan_expr_rules.specs.Parse.{expression_at}
 use Rattle.stan_expr_greedy.proofs.Complete.{expression_complete, one_is_picked}
-use Rattle.stan_expr_law.proofs.InsideLemmas.{reads_inside}
+use Rattle.stan_expr_rules.proofs.InsideLemmas.{reads_inside}
 use Rattle.stan_expr_rules.proofs.Greedy.{Near, Picks}
 use Rattle.stan_expr_law.proofs.Law.{some_is_picked}
 use Rattle.stan_expr_greedy.proofs.Sound.{expression_sound}

@@ -6,7 +6,7 @@ use Rattle.stan_model_grammar.specs.declared.operators.BinaryOperator.{BinaryOpe
 use Rattle.stan_model_grammar.specs.declared.operators.BinaryOperator.TheVariants as binaries
 use Rattle.stan_model_grammar.specs.declared.token.Token.{Token}
 use Rattle.stan_model_grammar.specs.Strata.{kind_at, binary_at, binary_size, assignment_at, assignment_size, joins}
-use Rattle.stan_expr_law.proofs.InsideLemmas.{kind_inside}
+use Rattle.stan_expr_rules.proofs.InsideLemmas.{kind_inside}
 use Rattle.stan_expr_rules.specs.Places.{operator_at, assigning_at, joins_at}
 
 some_apart : {A : Type 0} (x : A) → (let s : Option A = None in s ≡ Some x) → ⊥

@@ -12,7 +12,8 @@ use Rattle.stan_model_grammar.specs.Strata.{kind_at, leaf_of, prefix_of, loosest
 use Rattle.stan_model_grammar.specs.Trees.{TypeTree, Nullable, Union, Tree, node, Form, Single, Brackets, Array, IsSet, Empty, Exit, New, Match, Closure, Arrow, Text, Post, Prefix, Assignment, Chain, Binary, Conditional, Items, no_item, items, Item, Positional, Spread, Named, Element, KeyedElement, Parameter, Captured, Arm, DefaultArm}
 use Rattle.stan_model_grammar.specs.Expressions.{ItemSort, argument, element, expression, parameter, captured, arm, IsSomeItem, Is, May, MayBeVisible, Types, MayBeTyped, Reads, Forms, Lists, ItemReads}
 use Rattle.stan_expr_rules.specs.Parse.{begins_type}
-use Rattle.stan_expr_greedy.proofs.Computes.{kind_is, nothing_is}
+use Rattle.stan_expr_rules.proofs.InsideLemmas.{stands_kind}
+use Rattle.stan_expr_greedy.proofs.Reading.{nothing_is}
 
 -- ---- expressions
 
@@ -132,10 +133,10 @@ second_holds true y h = refl
 second_holds false y h = h
 
 visible_inside : (kind : TokenKind) (v : Visibility) → visibility_of kind ≡ Some v → closes kind ≡ false
-visible_inside kinds.RightParenthesis v h = nothing_is v _ h
-visible_inside kinds.RightBracket v h = nothing_is v _ h
-visible_inside kinds.RightBrace v h = nothing_is v _ h
-visible_inside kinds.DoubleArrow v h = nothing_is v _ h
+visible_inside kinds.RightParenthesis v h = absurd (nothing_is v h)
+visible_inside kinds.RightBracket v h = absurd (nothing_is v h)
+visible_inside kinds.RightBrace v h = absurd (nothing_is v h)
+visible_inside kinds.DoubleArrow v h = absurd (nothing_is v h)
 visible_inside kind v h = refl
 
 module _ (ts : List Token) where
@@ -176,7 +177,7 @@ module _ (ts : List Token) (Stops : ℕ → ℕ → ℕ → Type 0) where
 
   pub type_is_begun : (type : TypeTree) (at to : ℕ) → Types ts type at to → begins_type ts (kind_at ts at) ≡ true
   type_is_begun (Nullable first t) at to h = ap (begins_type ts) h.1
-  type_is_begun (Union t more) at to h = rw (kind_is ts at t h.1.0) (type_begins ts t.kind h.1.1)
+  type_is_begun (Union t more) at to h = rw (stands_kind ts at t h.1.0) (type_begins ts t.kind h.1.1)
 
   pub may_type_begins : (type : Option TypeTree) (at to : ℕ) → MayBeTyped ts type at to → behind_type (kind_at ts to) ≡ true → behind_visibility ts (kind_at ts at) ≡ true
   may_type_begins (Some type) at to h behind = first_holds (begins_type ts (kind_at ts at)) (behind_type (kind_at ts at)) (type_is_begun type at to h)
@@ -195,7 +196,7 @@ module _ (ts : List Token) (Stops : ℕ → ℕ → ℕ → Type 0) where
   item_begins (Positional e) expression at to h = reads_inside_list e false loosest at to h
   item_begins (Spread e) argument at to h = ap closes h.0
   item_begins (Spread e) element at to h = ap closes h.0
-  item_begins (Named t e) argument at to h = rw (kind_is ts at t h.0) (argument_inside t.kind h.1)
+  item_begins (Named t e) argument at to h = rw (stands_kind ts at t h.0) (argument_inside t.kind h.1)
   item_begins (Element true e) element at to h = ap closes h.1.0
   item_begins (Element false e) element at to h = rw (← h.1) at (reads_inside_list e true loosest h.0 to h.2)
   item_begins (KeyedElement key reference e) element at to h = reads_inside_list key false loosest at h.0 h.2

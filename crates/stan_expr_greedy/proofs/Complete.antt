@@ -32,7 +32,7 @@ module _ (ts : List Token) where
     complete_form (Prefix o e) = prefix_claim ts o e (complete e)
     complete_form (Assignment target o e) = assignment_claim ts target o e (complete target) (complete e)
     complete_form (Chain j e ss) = chain_claim ts j e ss (complete e) (complete_steps ss)
-    complete_form (Binary d sign o e) = binary_claim ts d o e (complete d) (complete e)
+    complete_form (Binary d sign o e) = binary_claim ts d sign o e (complete d) (complete e)
     complete_form (Conditional c d e) = conditional_claim ts c d e (complete c) (complete d) (complete e)
 
     complete_items : (es : Items) → ItemsC ts es
@@ -80,7 +80,7 @@ module _ (ts : List Token) where
     complete_step (Call es) = call_claim ts es (complete_items es)
     complete_step Increment = increment_claim ts
     complete_step Decrement = decrement_claim ts
-    complete_step (Operation sign o e) = operation_claim ts o e (complete e)
+    complete_step (Operation sign o e) = operation_claim ts sign o e (complete e)
     complete_step (Part t) = part_claim ts t
     complete_step (Inserted e) = inserted_claim ts e (complete e)
     complete_step (Further x) = further_claim ts x (complete_item x)

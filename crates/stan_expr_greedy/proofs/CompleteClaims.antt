@@ -9,7 +9,7 @@ use Rattle.stan_model_grammar.specs.Strata.{kind_at, loosest, prefix_of}
 use Rattle.stan_model_grammar.specs.Trees.{Tree, node, Form, Items, Item, Default, Arguments, ClassReference, MemberName, Steps, Step}
 use Rattle.stan_model_grammar.specs.Expressions.{ItemSort, StepSort, further, IsSomeItem, is_assignable, Is, Stands, Between, Forms, Lists, ItemReads, Defaults, MayBeCalled, Classes, Members, Repeats, StepReads}
 use Rattle.stan_model_grammar.specs.Depth.{depth, form_depth, items_depth, item_depth, default_depth, arguments_depth, class_depth, member_depth, steps_depth, step_depth}
-use Rattle.stan_expr_law.proofs.InsideLemmas.{form_inside, stands_inside}
+use Rattle.stan_expr_rules.proofs.InsideLemmas.{form_inside, stands_inside}
 use Rattle.stan_expr_rules.specs.Parse.{enclosed, may_default, some_items, called, member, class_reference, atom_with, post, strata, below}
 use Rattle.stan_expr_rules.proofs.Greedy.{J, Near, Greedy}
 use Rattle.stan_expr_greedy.proofs.Computes.{apart, one_token}
@@ -17,7 +17,7 @@ use Rattle.stan_expr_greedy.proofs.Begins.{clash, closes}
 use Rattle.stan_expr_greedy.proofs.CompleteItems.{Ends, StepEnds, Within, Gives, reader, Taken, AllTaken, enclosed_reads}
 use Rattle.stan_expr_greedy.proofs.CompleteForms.{FormIs}
 use Rattle.stan_expr_greedy.proofs.CompleteStrata.{pattern_fits, atom_reads, post_alone, operand_alone, from_operand}
-use Rattle.stan_expr_greedy.proofs.CompleteStarts.{is_atom, is_post, assignable_is_post, leads, atom_of_zero, atom_stops, atom_leads, post_leads, post_stops}
+use Rattle.stan_expr_greedy.proofs.CompleteStarts.{is_atom, is_post, atom_no_arrow, assignable_is_post, leads, atom_of_zero, atom_stops, atom_leads, post_leads, post_stops}
 
 pub within_first : (sort : StepSort) (a b n : ℕ) → Within sort (max a b) n → Within sort a n
 within_first (further sort) a b n h = omega arith
@@ -128,7 +128,7 @@ module _ (ts : List Token) where
       let stops = atom_stops ts f p k at to a h in
       let lead = atom_leads ts f p k at to a h in
       let i = form_inside ts (Near ts) f p k at to (stands_inside ts at t s) h in
-      post_alone ts (below ts n) t f at to s (apart leads (kind_at ts at) kinds.New lead refl) (c n p k at to h d) (λ le. let far = stops le in omega arith) i.1
+      post_alone ts (below ts n) t f at to s (apart leads (kind_at ts at) kinds.New lead refl) (c n p k at to h d) (atom_no_arrow t f a) (λ le. let far = stops le in omega arith) i.1
 
   pub atom_claims : (f : Form) → is_atom f ≡ true → is_post f ≡ true → AtomF f → FormC f
   atom_claims f a is c = (λ _. c, λ _. post_of_atom f a is c, level_of_post f is (post_of_atom f a is c))

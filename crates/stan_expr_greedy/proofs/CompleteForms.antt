@@ -10,11 +10,12 @@ use Rattle.stan_model_grammar.specs.declared.token.TokenKind.TheVariants as kind
 use Rattle.stan_model_grammar.specs.Strata.{kind_at, loosest, leaf_of, leaf_low, is_exit}
 use Rattle.stan_model_grammar.specs.Trees.{TypeTree, Tree, Form, Single, Brackets, Array, IsSet, Empty, Exit, New, Match, Closure, Arrow, Text, Items, no_item, items, Item, Captured, Arguments, ClassReference, Steps, no_step, step, Push, Index, Property, Scoped, Call, Increment, Decrement, Operation, Part, Inserted, Further, Body, Held, Read}
 use Rattle.stan_model_grammar.specs.Expressions.{captured, part, further, has_items, Is, Stands, May, MayCapture, MayReturn, Lists, ItemReads, Repeats, Bodies}
-use Rattle.stan_expr_law.proofs.InsideLemmas.{step_inside}
+use Rattle.stan_expr_rules.proofs.InsideLemmas.{step_inside}
 use Rattle.stan_expr_rules.specs.Parse as parse
 use Rattle.stan_expr_rules.specs.Parse.{◌>>=◌, choose, enclosed, fenced, fenced_some, some_items, argument_at, element_at, positional, captured_at, arm_at, may_capture, parameters, may_be_called, called, class_reference, new, brackets, short_array, long_array, is_set, empty, exit, match_form, closure, text, parts, leaf, static_word, form_by, may_return, body}
 use Rattle.stan_expr_rules.proofs.Greedy.{J, Near}
-use Rattle.stan_expr_greedy.proofs.Computes.{nothing_is, after_at, after_to, after_not, after_other, may_reads}
+use Rattle.stan_expr_greedy.proofs.Reading.{after_at, after_not, after_to, nothing_is}
+use Rattle.stan_expr_greedy.proofs.Computes.{after_other, may_reads}
 use Rattle.stan_expr_greedy.proofs.Begins.{clash, item_begins}
 use Rattle.stan_expr_greedy.proofs.CompleteParts.{may_return_reads, body_reads}
 use Rattle.stan_expr_greedy.proofs.CompleteItems.{Gives, AllTaken, captured_reads, some_items_read}
@@ -48,18 +49,18 @@ module _ (ts : List Token) (b : Bool → ℕ → ℕ → parse.Read Tree) where
   static_leaf l k at h near = absurd cc
 
   leaf_by : (kind : TokenKind) (l : Leaf) (k at : ℕ) → leaf_of kind ≡ Some l → Near ts (leaf_low l) k (at + 1) → form_by ts b kind at ≡ Some (Single l, at + 1)
-  leaf_by kinds.LeftParenthesis l k at h near = nothing_is l _ h
-  leaf_by kinds.LeftBracket l k at h near = nothing_is l _ h
-  leaf_by kinds.Array l k at h near = nothing_is l _ h
-  leaf_by kinds.List l k at h near = nothing_is l _ h
-  leaf_by kinds.IsSet l k at h near = nothing_is l _ h
-  leaf_by kinds.Empty l k at h near = nothing_is l _ h
-  leaf_by kinds.Exit l k at h near = nothing_is l _ h
-  leaf_by kinds.Die l k at h near = nothing_is l _ h
-  leaf_by kinds.Match l k at h near = nothing_is l _ h
-  leaf_by kinds.Function l k at h near = nothing_is l _ h
-  leaf_by kinds.Fn l k at h near = nothing_is l _ h
-  leaf_by kinds.TextStart l k at h near = nothing_is l _ h
+  leaf_by kinds.LeftParenthesis l k at h near = absurd (nothing_is l h)
+  leaf_by kinds.LeftBracket l k at h near = absurd (nothing_is l h)
+  leaf_by kinds.Array l k at h near = absurd (nothing_is l h)
+  leaf_by kinds.List l k at h near = absurd (nothing_is l h)
+  leaf_by kinds.IsSet l k at h near = absurd (nothing_is l h)
+  leaf_by kinds.Empty l k at h near = absurd (nothing_is l h)
+  leaf_by kinds.Exit l k at h near = absurd (nothing_is l h)
+  leaf_by kinds.Die l k at h near = absurd (nothing_is l h)
+  leaf_by kinds.Match l k at h near = absurd (nothing_is l h)
+  leaf_by kinds.Function l k at h near = absurd (nothing_is l h)
+  leaf_by kinds.Fn l k at h near = absurd (nothing_is l h)
+  leaf_by kinds.TextStart l k at h near = absurd (nothing_is l h)
   leaf_by kinds.Static l k at h near = static_leaf l k (at + 1) h near
   leaf_by kind l k at h near = leaf_gives (leaf_of kind) l (at + 1) h
 

@@ -1,6 +1,7 @@
 -- Items and lists are read as they stand, where the expressions in them are.
 use Rattle.std.proofs.Common.{◌≡◌, ℕ, ◌+◌, ◌≤◌, ◌<◌, Bool, true, false, List, [], ◌∷◌, length, Option, Some, None, refl, sym, ap, ◌∙◌, arith}
 use Rattle.std.specs.Prelude.{IsTrue}
+use Rattle.stan_model_grammar.specs.declared.operators.BinaryOperator.{BinaryOperator}
 use Rattle.stan_model_grammar.specs.declared.operators.Visibility.{Visibility}
 use Rattle.stan_model_grammar.specs.declared.token.Token.{Token}
 use Rattle.stan_model_grammar.specs.declared.token.TokenKind.{TokenKind}
@@ -8,11 +9,12 @@ use Rattle.stan_model_grammar.specs.declared.token.TokenKind.TheVariants as kind
 use Rattle.stan_model_grammar.specs.Strata.{kind_at, loosest, binary_stratum, names_argument}
 use Rattle.stan_model_grammar.specs.Trees.{TypeTree, Tree, Items, items, Item, Positional, Spread, Named, Element, KeyedElement, Parameter, Captured, Arm, DefaultArm, Default, no_default, default, Steps, no_step, step, Step, Operation, Further, is_pattern}
 use Rattle.stan_model_grammar.specs.Expressions.{ItemSort, argument, element, expression, parameter, captured, arm, StepSort, suffix, class_suffix, part, operation, further, Is, Stands, May, Between, ItemReads}
-use Rattle.stan_expr_law.proofs.InsideLemmas.{is_inside}
-use Rattle.stan_model_grammar.specs.TreeLists.{furthers}
+use Rattle.stan_expr_rules.proofs.InsideLemmas.{is_inside, stands_kind}
+use Rattle.stan_model_grammar.specs.TreeLists.{Operated, furthers}
 use Rattle.stan_expr_rules.specs.Parse.{Read, many, enclosed, spread, positional, named_with, named, unspread, argument_at, keyed_with, keyed, referenced, value, unspread_element, element_at, some_default, may_default, parameter_with, parameter_at, captured_at, further_after, further_item, more_items, some_items, default_arm, conditions_arm, arm_at, suffix_at, class_suffix_at, part_at, operation_at}
 use Rattle.stan_expr_rules.proofs.Greedy.{Near}
-use Rattle.stan_expr_greedy.proofs.Computes.{apart, after_at, after_to, after_not, after_other, may_reads, kind_is, Turns, many_reads}
+use Rattle.stan_expr_greedy.proofs.Reading.{after_at, after_not, after_to}
+use Rattle.stan_expr_greedy.proofs.Computes.{apart, after_other, may_reads, Turns, many_reads}
 use Rattle.stan_expr_greedy.proofs.Begins.{begins, closes, reference_begins, may_type_begins}
 use Rattle.stan_expr_greedy.proofs.CompleteParts.{may_type_reads, visibility_reads}
 
@@ -48,6 +50,9 @@ closes_some kind c e = apart closes kind kinds.End c refl (sym e)
 
 closes_no_comma : (kind : TokenKind) → closes kind ≡ true → kind ≡ kinds.Comma → ⊥
 closes_no_comma kind c e = apart closes kind kinds.Comma c refl e
+
+abbrev pub operated : Token → BinaryOperator → Tree → Operated
+operated sign o e = record { token = sign; operator = o; operand = e }
 
 module _ (ts : List Token) (b : Bool → ℕ → ℕ → Read Tree) where
   abbrev pub Gives : Bool → ℕ → Tree → ℕ → ℕ → Type 0
@@ -85,7 +90,7 @@ module _ (ts : List Token) (b : Bool → ℕ → ℕ → Read Tree) where
   pub named_argument : (t : Token) (e : Tree) (at to : ℕ) → Stands ts at t → IsTrue (names_argument t.kind) → Is ts (at + 1) kinds.Colon → Gives false loosest e (at + 2) to → argument_at ts b at ≡ Some (Named t e, to)
   unfolding argument_at unspread named named_with
   named_argument t e at to s names k d =
-      let other : kind_at ts at ≡ kinds.Ellipsis → ⊥ = λ q. apart names_argument t.kind kinds.Ellipsis names refl (sym (kind_is ts at t s) ∙ q) in
+      let other : kind_at ts at ≡ kinds.Ellipsis → ⊥ = λ q. apart names_argument t.kind kinds.Ellipsis names refl (sym (stands_kind ts at t s) ∙ q) in
       rw (after_not ts kinds.Ellipsis at other, after_to ts kinds.Colon (at + 1) (at + 2) (λ e. cc) k (omega arith), s, names, d) refl
 
   pub spread_element : (e : Tree) (at to : ℕ) → Is ts at kinds.Ellipsis → Gives false loosest e (at + 1) to → element_at ts b at ≡ Some (Spread e, to)
@@ -167,7 +172,7 @@ module _ (ts : List Token) (b : Bool → ℕ → ℕ → Read Tree) where
   Taken suffix x at to = suffix_at ts b at ≡ Some (Some (x, to))
   Taken class_suffix x at to = class_suffix_at ts b at ≡ Some (Some (x, to))
   Taken part x at to = part_at ts b at ≡ Some (Some (x, to))
-  Taken (operation j) (Operation sign o e) at to = (binary_stratum o ≡ j) × (operation_at ts b j at ≡ Some (Some ((o, e), to)))
+  Taken (operation j) (Operation sign o e) at to = (binary_stratum o ≡ j) × (operation_at ts b j at ≡ Some (Some (operated sign o e, to)))
   Taken (further sort) (Further x) at to = Is ts at kinds.Comma × (closes (kind_at ts (at + 1)) ≡ false) × (reader sort (at + 1) ≡ Some (x, to))
   Taken _ x at to = ⊥
 

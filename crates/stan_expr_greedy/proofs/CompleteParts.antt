@@ -12,10 +12,11 @@ use Rattle.stan_model_grammar.specs.declared.token.TokenKind.TheVariants as kind
 use Rattle.stan_model_grammar.specs.Strata.{kind_at, names_type}
 use Rattle.stan_model_grammar.specs.Trees.{TypeTree, Nullable, Union, Body, Held, Read}
 use Rattle.stan_model_grammar.specs.Expressions.{Is, Stands, MayBeVisible, TypeName, Alternatives, Types, MayBeTyped, MayReturn, Bodies, IsMatched, braces_open, braces_behind}
-use Rattle.stan_expr_law.proofs.InsideLemmas.{type_inside, is_inside}
+use Rattle.stan_expr_rules.proofs.InsideLemmas.{type_inside, is_inside, stands_kind}
 use Rattle.stan_expr_rules.specs.Places.{same_kind}
 use Rattle.stan_expr_rules.specs.Parse.{Turn, all, type_name, alternative, alternatives, union, nullable, type_tree, some_type, may_type, may_return, closing_within, closing, body, visibility}
-use Rattle.stan_expr_greedy.proofs.Computes.{apart, same_at, same_not, after_at, after_to, after_not, kind_is, Turns, many_reads}
+use Rattle.stan_expr_greedy.proofs.Reading.{after_at, after_not, after_to, same_at, same_not}
+use Rattle.stan_expr_greedy.proofs.Computes.{apart, Turns, many_reads}
 use Rattle.stan_expr_greedy.proofs.Begins.{behind_type, behind_visibility, no_visibility, no_type, type_is_begun}
 
 pub get_some : {A : Type 0} (xs : List A) (k : ℕ) → k < length xs → (x : A) × (slice_get xs k ≡ Some x)
@@ -52,7 +53,7 @@ module _ (ts : List Token) where
   pub type_reads : (tree : TypeTree) (at to : ℕ) → Types ts tree at to → (kind_at ts to ≡ kinds.Bar → ⊥) → type_tree ts at ≡ Some (tree, to)
   unfolding type_tree nullable union alternatives
   type_reads (Nullable first t) at to h other =
-      rw (h.0, same_at first.kind kinds.Question (sym (kind_is ts at first h.0) ∙ h.1), type_name_reads t (at + 1) to h.2) refl
+      rw (h.0, same_at first.kind kinds.Question (sym (stands_kind ts at first h.0) ∙ h.1), type_name_reads t (at + 1) to h.2) refl
   type_reads (Union t more) at to h other =
       let i = type_inside ts (Union t more) at to h in
       rw (h.1.0, name_is_no_question t h.1.1, type_name_reads t at h.0 h.1, all_reads (alternative ts) more h.0 to i.1 (alternatives_turn more h.0 to h.2 other)) refl

@@ -9,15 +9,17 @@ use Rattle.stan_model_grammar.specs.Strata.{kind_at, loosest, binary_stratum, ti
 use Rattle.stan_model_grammar.specs.Trees.{TypeTree, Tree, Items, no_item, items, Item, Positional, Spread, Named, Element, KeyedElement, Parameter, Captured, Arm, DefaultArm, Default, no_default, default, Arguments, no_arguments, arguments, NamedClass, VariableClass, ScopedClass, ComputedClass, MemberName, NamedMember, ComputedMember, Steps, no_step, step, Step, Push, Index, Property, Scoped, Call, Increment, Decrement, Operation, Part, Inserted, Further}
 use Rattle.stan_model_grammar.specs.Expressions.{ItemSort, argument, element, expression, parameter, captured, arm, StepSort, class_suffix, further, IsSomeItem, takes_arguments, Is, May, Between, Lists, Repeats, StepReads}
 use Rattle.stan_model_grammar.specs.Depth.{depth, items_depth, arguments_depth, member_depth, steps_depth, step_depth}
-use Rattle.stan_expr_law.proofs.InsideLemmas.{class_inside, step_inside}
+use Rattle.stan_expr_rules.proofs.InsideLemmas.{class_inside, step_inside}
 use Rattle.stan_expr_rules.specs.Parse.{positional, argument_at, list_items, fenced, fenced_some, parameters, below}
 use Rattle.stan_expr_rules.proofs.Greedy.{Near}
-use Rattle.stan_expr_greedy.proofs.Computes.{apart, after_at, after_to, after_not}
+use Rattle.stan_expr_greedy.proofs.Reading.{after_at, after_not, after_to}
+use Rattle.stan_expr_greedy.proofs.Computes.{apart}
+use Rattle.stan_expr_greedy.proofs.SoundTables.{stratum_bounds}
 use Rattle.stan_expr_greedy.proofs.Begins.{clash, closes, tree_begins, expressions_begin, item_begins}
 use Rattle.stan_expr_greedy.proofs.CompleteItems.{closes_some, Ends, comma_ends, StepEnds, reader, spread_argument, positional_reads, positional_argument, named_argument, spread_element, element_reads, keyed_element, no_default_reads, some_default_reads, parameter_reads, captured_reads, default_arm_reads, conditions_arm_reads, some_items_read}
 use Rattle.stan_expr_greedy.proofs.CompleteSteps.{no_arguments_read, arguments_read, named_member_reads, computed_member_reads, push_taken, index_taken, property_taken, scoped_taken, call_taken, increment_taken, decrement_taken, variable_class_reads, named_class_reads, scoped_class_reads, computed_class_reads, part_taken, inserted_taken, operation_taken}
 use Rattle.stan_expr_greedy.proofs.CompleteStrata.{no_pattern, in_each}
-use Rattle.stan_expr_greedy.proofs.CompleteStarts.{stratum_in, tighter_in, token_of}
+use Rattle.stan_expr_greedy.proofs.CompleteStarts.{tighter_in, token_of}
 use Rattle.stan_expr_greedy.proofs.CompleteClaims.{within_first, within_second, within_at_most, TreeC, ItemsC, ItemC, DefaultC, ArgumentsC, ClassC, MemberC, StepsC, StepC, inner, inner_loosest, enclosed_claim}
 
 module _ (ts : List Token) where
@@ -205,12 +207,12 @@ module _ (ts : List Token) where
   pub decrement_claim : StepC ts Decrement
   decrement_claim n sort at to h e d = decrement_taken ts (below ts n) sort at to h.0 h.1 h.2
 
-  pub operation_claim : (o : BinaryOperator) (t : Tree) → TreeC ts t → StepC ts (Operation o t)
-  operation_claim o t c n sort at to h e d =
+  pub operation_claim : (sign : Token) (o : BinaryOperator) (t : Tree) → TreeC ts t → StepC ts (Operation sign o t)
+  operation_claim sign o t c n sort at to h e d =
       let within = within_at_most sort (depth t + 1) n d in
-      let stratum = stratum_in o in
+      let stratum = stratum_bounds o in
       let operands = tighter_in (binary_stratum o) stratum.0 in
-      operation_taken ts (below ts n) sort o t at h.0 to h.1 h.2 (inner ts t c n false (tighter (binary_stratum o)) h.0 to operands.0 (omega (arith, operands.1, stratum.1)) h.3 (omega arith))
+      operation_taken ts (below ts n) sort sign o t at h.0 to h.1 h.2 (inner ts t c n false (tighter (binary_stratum o)) h.0 to operands.0 (omega (arith, operands.1, stratum.1)) h.3 (omega arith))
 
   pub part_claim : (t : Token) → StepC ts (Part t)
   part_claim t n sort at to h e d = part_taken ts (below ts n) sort t at to h.0 h.1 h.2 h.3

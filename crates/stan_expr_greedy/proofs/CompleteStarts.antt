@@ -11,25 +11,22 @@ use Rattle.stan_model_grammar.specs.declared.operators.Fixity.TheVariants as fix
 use Rattle.stan_model_grammar.specs.declared.operators.Leaf.{Leaf}
 use Rattle.stan_model_grammar.specs.declared.operators.Leaf.TheVariants as leaves
 use Rattle.stan_model_grammar.specs.declared.operators.PrefixOperator.{PrefixOperator}
-use Rattle.stan_model_grammar.specs.declared.operators.PrefixOperator.TheVariants as prefixes
 use Rattle.stan_model_grammar.specs.declared.token.Token.{Token}
 use Rattle.stan_model_grammar.specs.declared.token.TokenKind.{TokenKind}
 use Rattle.stan_model_grammar.specs.declared.token.TokenKind.TheVariants as kinds
-use Rattle.stan_model_grammar.specs.Strata.{kind_at, leaf_of, leaf_low, prefix_of, prefix_stratum, binary_stratum, fixity, tighter, right_side, is_exit}
-use Rattle.stan_model_grammar.specs.Trees.{Tree, node, Form, Single, Brackets, Array, IsSet, Empty, Exit, New, Match, Closure, Arrow, Text, Post, Prefix, Assignment, Chain, Binary, Conditional}
+use Rattle.stan_model_grammar.specs.Strata.{kind_at, leaf_of, leaf_low, prefix_of, binary_stratum, fixity, tighter, right_side, is_exit}
+use Rattle.stan_model_grammar.specs.Trees.{TypeTree, Tree, Items, node, Form, Single, Brackets, Array, IsSet, Empty, Exit, New, Match, Closure, Arrow, Text, Post, Prefix, Assignment, Chain, Binary, Conditional}
 use Rattle.stan_model_grammar.specs.Expressions.{is_assignable, Is, Stands, Forms}
-use Rattle.stan_expr_law.proofs.InsideLemmas.{is_inside}
-use Rattle.stan_expr_rules.specs.Parse.{first_of, parameters}
-use Rattle.stan_expr_rules.proofs.Greedy.{Near, Greedy}
-use Rattle.stan_expr_greedy.proofs.Computes.{none_of, nothing_is}
+use Rattle.stan_expr_rules.proofs.InsideLemmas.{is_inside}
+use Rattle.stan_expr_rules.specs.Parse.{stands_arrow, is_arrow}
+use Rattle.stan_expr_rules.proofs.Greedy.{Near, Greedy, leaf_is_none}
+use Rattle.stan_expr_greedy.proofs.Reading.{nothing_is}
+use Rattle.stan_expr_greedy.proofs.Computes.{none_of}
+use Rattle.stan_expr_greedy.proofs.SoundTables.{stratum_bounds}
 use Rattle.stan_expr_greedy.proofs.Begins.{clash}
 use Rattle.stan_expr_greedy.proofs.CompleteParts.{get_some}
 
 -- ---- tables
-
-pub stratum_in : (o : BinaryOperator) → (6 ≤ binary_stratum o) × (binary_stratum o ≤ 28)
-stratum_in binaries.Power = (omega arith, omega arith)
-stratum_in o = (omega arith, omega arith)
 
 -- operators that make no chain
 pub single_in : (o : BinaryOperator) → (fixity o ≡ fixities.Left → ⊥) → binary_stratum o ≤ 21
@@ -50,10 +47,6 @@ pub right_in : (f : Fixity) (j : ℕ) → (j - 1 ≤ right_side f j) × (right_s
 right_in fixities.Right j = (omega arith, omega arith)
 right_in f j = (omega arith, omega arith)
 
-pub prefix_in : (o : PrefixOperator) → (5 ≤ prefix_stratum o) × (prefix_stratum o ≤ 29)
-prefix_in prefixes.Clone = (omega arith, omega arith)
-prefix_in o = (omega arith, omega arith)
-
 pub tighter_in : (j : ℕ) → 6 ≤ j → (5 ≤ tighter j) × (tighter j ≤ j)
 tighter_in j lo =
     elim (eqb_tells j 23) [
@@ -68,6 +61,7 @@ leaf_low_in leaf = omega arith
 -- what stands alone, and what may be assigned to or appended to
 abbrev pub is_atom : Form → Bool
 is_atom (New class es) = false
+is_atom (Arrow static reference parameters type e) = false
 is_atom (Post e ss) = false
 is_atom (Prefix o e) = false
 is_atom (Assignment target o e) = false
@@ -84,11 +78,17 @@ is_post (Binary d sign o e) = false
 is_post (Conditional c d e) = false
 is_post f = true
 
+-- what stands alone is no arrow function
+pub atom_no_arrow : (t : Token) (f : Form) → is_atom f ≡ true → is_arrow (node t f) ≡ false
+atom_no_arrow t (Single leaf) a = leaf_is_none stands_arrow refl refl refl refl leaf
+atom_no_arrow t (Arrow static reference parameters type e) a = clash _ a
+atom_no_arrow t f a = refl
+
 pub assignable_is_post : (o : AssignmentOperator) (t : Token) (f : Form) → is_assignable o (node t f) ≡ true → is_post f ≡ true
 assignable_is_post o t (Prefix p e) h = clash _ h
 assignable_is_post o t (Assignment target p e) h = clash _ h
 assignable_is_post o t (Chain j e ss) h = clash _ h
-assignable_is_post o t (Binary d p e) h = clash _ h
+assignable_is_post o t (Binary d sign p e) h = clash _ h
 assignable_is_post o t (Conditional c d e) h = clash _ h
 assignable_is_post o t f h = refl
 
@@ -117,7 +117,7 @@ leaf_leads kinds.QualifiedName leaf h = refl
 leaf_leads kinds.FullyQualifiedName leaf h = refl
 leaf_leads kinds.RelativeName leaf h = refl
 leaf_leads kinds.Static leaf h = refl
-leaf_leads kind leaf h = nothing_is leaf _ h
+leaf_leads kind leaf h = absurd (nothing_is leaf h)
 
 exit_leads : (kind : TokenKind) → IsTrue (is_exit kind) → leads kind ≡ true
 exit_leads kinds.Exit h = refl
@@ -128,18 +128,16 @@ module _ (ts : List Token) where
   pub token_of : (kind : TokenKind) (at : ℕ) → (kind ≡ kinds.End → ⊥) → Is ts at kind → (t : Token) × Stands ts at t
   token_of kind at some k = get_some ts at (is_inside ts at kind some k)
 
-  pub first_stands : (p : Bool) (k : ℕ) (t : Tree) (at to : ℕ) → Greedy ts p k t at to → Stands ts at (first_of t)
-  first_stands p k (node t f) at to h = h.0
-
   -- ---- what stands alone
 
   pub atom_of_zero : (p : Bool) (f : Form) (at to : ℕ) → Forms ts (Near ts) p 0 f at to → is_atom f ≡ true
   atom_of_zero p (New class es) at to h = absurd (omega (arith, h.1))
+  atom_of_zero p (Arrow static reference parameters type e) at to h = absurd (omega (arith, h.12))
   atom_of_zero p (Post e ss) at to h = absurd (omega (arith, h.1))
   atom_of_zero p (Prefix o e) at to h = absurd (omega (arith, h.0))
   atom_of_zero p (Assignment target o e) at to h = absurd (omega (arith, h.2))
   atom_of_zero p (Chain j e ss) at to h = absurd (omega (arith, h.1, h.2))
-  atom_of_zero p (Binary d sign o e) at to h = absurd (omega (arith, h.2, (stratum_in o).0))
+  atom_of_zero p (Binary d sign o e) at to h = absurd (omega (arith, h.2, (stratum_bounds o).0))
   atom_of_zero p (Conditional c d e) at to h = absurd (omega (arith, h.2))
   atom_of_zero p f at to h = refl
 
@@ -154,7 +152,6 @@ module _ (ts : List Token) where
   atom_stops (Exit es) p k at to a h = h.2
   atom_stops (Match e arms) p k at to a h = h.4
   atom_stops (Closure static reference parameters captures type body) p k at to a h = h.12
-  atom_stops (Arrow static reference parameters type e) p k at to a h = h.11
   atom_stops (Text parts) p k at to a h = h.1
   atom_stops f p k at to a h = clash _ a
 
@@ -170,16 +167,19 @@ module _ (ts : List Token) where
   atom_leads (Match e arms) p k at to a h = ap leads h.1
   atom_leads (Closure true reference parameters captures type body) p k at to a h = ap leads h.5.0
   atom_leads (Closure false reference parameters captures type body) p k at to a h = rw (← h.5) at (ap leads h.6)
-  atom_leads (Arrow true reference parameters type e) p k at to a h = ap leads h.4.0
-  atom_leads (Arrow false reference parameters type e) p k at to a h = rw (← h.4) at (ap leads h.5)
   atom_leads (Text parts) p k at to a h = ap leads h.0.1
   atom_leads f p k at to a h = clash _ a
+
+  pub arrow_leads : (static reference : Bool) (ps : Items) (type : Option TypeTree) (e : Tree) (p : Bool) (k at to : ℕ) → Forms ts (Near ts) p k (Arrow static reference ps type e) at to → leads (kind_at ts at) ≡ true
+  arrow_leads true reference ps type e p k at to h = ap leads h.4.0
+  arrow_leads false reference ps type e p k at to h = rw (← h.4) at (ap leads h.5)
 
   pub tree_leads : (p : Bool) (t : Tree) (at to : ℕ) → Greedy ts p 0 t at to → leads (kind_at ts at) ≡ true
   tree_leads p (node t f) at to h = atom_leads f p 0 at to (atom_of_zero p f at to h.1) h.1
 
   pub post_leads : (f : Form) (p : Bool) (k at to : ℕ) → is_post f ≡ true → Forms ts (Near ts) p k f at to → prefix_of (kind_at ts at) ≡ None
   post_leads (New class es) p k at to a h = ap prefix_of h.2
+  post_leads (Arrow static reference ps type e) p k at to a h = leads_none (kind_at ts at) (arrow_leads static reference ps type e p k at to h)
   post_leads (Post e ss) p k at to a h = leads_none (kind_at ts at) (tree_leads false e at h.0 h.3)
   post_leads (Prefix o e) p k at to a h = clash _ a
   post_leads (Assignment target o e) p k at to a h = clash _ a
@@ -190,6 +190,7 @@ module _ (ts : List Token) where
 
   pub post_stops : (f : Form) (p : Bool) (k at to : ℕ) → is_post f ≡ true → Forms ts (Near ts) p k f at to → Near ts 5 k to
   post_stops (New class es) p k at to a h = h.5
+  post_stops (Arrow static reference ps type e) p k at to a h = h.11
   post_stops (Post e ss) p k at to a h = λ le. h.5 (omega arith)
   post_stops (Prefix o e) p k at to a h = clash _ a
   post_stops (Assignment target o e) p k at to a h = clash _ a

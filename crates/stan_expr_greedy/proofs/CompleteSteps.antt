@@ -9,18 +9,17 @@ use Rattle.stan_model_grammar.specs.declared.token.TokenKind.TheVariants as kind
 use Rattle.stan_model_grammar.specs.Strata.{kind_at, joins, double_colon, binary_stratum, tighter, names_class, names_member, is_part}
 use Rattle.stan_model_grammar.specs.Trees.{Tree, Items, Arguments, no_arguments, arguments, NamedClass, VariableClass, ScopedClass, ComputedClass, MemberName, NamedMember, ComputedMember, Steps, no_step, step, Step, Push, Index, Property, Scoped, Call, Increment, Decrement, Operation, Part, Inserted}
 use Rattle.stan_model_grammar.specs.Expressions.{StepSort, suffix, class_suffix, part, operation, IsSuffix, IsAppended, IsPart, IsOperation, takes_arguments, is_scoped, arrow, Is, Stands, Operates, MayBeCalled}
-use Rattle.stan_model_grammar.specs.TreeLists.{steps, operation_steps}
+use Rattle.stan_model_grammar.specs.TreeLists.{Operated, steps, operation_steps}
 use Rattle.stan_expr_rules.specs.Places.{same_kind, after, operator_at}
 use Rattle.stan_expr_rules.specs.Parse.{Read, Turn, enclosed, fenced, argument_at, some_arguments, may_be_called, called, computed_member, named_member, member, property, scoped_with, scoped, class_scoped, index, bracket, call, suffix_by, suffix_at, suffixes, class_suffix_by, class_suffix_at, class_suffixes, variable_class, scoped_class, computed_class, behind_class, named_class, class_reference, inserted, part_by, part_at, parts, operation_with, operation_by, operation_at, operations}
 use Rattle.stan_expr_rules.proofs.Greedy.{J, Near}
-use Rattle.stan_expr_greedy.proofs.Computes.{apart, same_at, same_not, after_at, after_to, after_not, after_kind, kind_is, operator_is, operator_joins, Turns}
+use Rattle.stan_expr_rules.proofs.InsideLemmas.{stands_kind}
+use Rattle.stan_expr_greedy.proofs.Reading.{after_at, after_is, after_not, after_to, same_at, same_not}
+use Rattle.stan_expr_greedy.proofs.Computes.{apart, operator_is, operator_stratum, Turns}
+use Rattle.stan_expr_greedy.proofs.SoundTables.{double_bounds}
 use Rattle.stan_expr_greedy.proofs.Begins.{begins, clash}
 use Rattle.stan_expr_greedy.proofs.CompleteParts.{all_reads}
-use Rattle.stan_expr_greedy.proofs.CompleteItems.{Gives, Taken, AllTaken}
-
-double_colon_near : (next : TokenKind) → (1 ≤ double_colon next) × (double_colon next ≤ 4)
-double_colon_near kinds.Variable = (omega arith, omega arith)
-double_colon_near next = (omega arith, omega arith)
+use Rattle.stan_expr_greedy.proofs.CompleteItems.{operated, Gives, Taken, AllTaken}
 
 abbrev pub step_list : Steps → List Step
 step_list no_step = []
@@ -30,9 +29,9 @@ pub steps_same : (ss : Steps) → steps (step_list ss) ≡ ss
 steps_same no_step = refl
 steps_same (step x xs) = ap (λ r. step x r) (steps_same xs)
 
-abbrev pub operation_list : Steps → List (BinaryOperator × Tree)
+abbrev pub operation_list : Steps → List Operated
 operation_list no_step = []
-operation_list (step (Operation sign o e) xs) = (o, e) ∷ operation_list xs
+operation_list (step (Operation sign o e) xs) = operated sign o e ∷ operation_list xs
 operation_list (step x xs) = operation_list xs
 
 module _ (ts : List Token) (b : Bool → ℕ → ℕ → Read Tree) where
@@ -70,7 +69,7 @@ module _ (ts : List Token) (b : Bool → ℕ → ℕ → Read Tree) where
   pub named_member_reads : (t : Token) (at to : ℕ) → Stands ts at t → IsTrue (names_member t.kind) → to ≡ at + 1 → member ts b at ≡ Some (NamedMember t, to)
   unfolding member named_member
   named_member_reads t at to s names e =
-      let other : kind_at ts at ≡ kinds.LeftBrace → ⊥ = λ q. apart names_member t.kind kinds.LeftBrace names refl (sym (kind_is ts at t s) ∙ q) in
+      let other : kind_at ts at ≡ kinds.LeftBrace → ⊥ = λ q. apart names_member t.kind kinds.LeftBrace names refl (sym (stands_kind ts at t s) ∙ q) in
       rw (after_not ts kinds.LeftBrace at other, s, names, e) refl
 
   pub computed_member_reads : (e : Tree) (at to : ℕ) → Is ts at kinds.LeftBrace → enclosed ts b kinds.LeftBrace kinds.RightBrace at ≡ Some (e, to) → member ts b at ≡ Some (ComputedMember e, to)
@@ -126,7 +125,7 @@ module _ (ts : List Token) (b : Bool → ℕ → ℕ → Read Tree) where
       let two : at + 1 + 1 ≡ at + 2 = omega arith in
       rw (k, s, names, two, scoped_with_reads true t es (at + 2) to h) refl
   scoped_taken class_suffix t es at to names k s h =
-      let v = after_to ts kinds.Variable (at + 1) (at + 2) (λ e. cc) (kind_is ts (at + 1) t s ∙ class_scope_is t.kind names) (omega arith) in
+      let v = after_to ts kinds.Variable (at + 1) (at + 2) (λ e. cc) (stands_kind ts (at + 1) t s ∙ class_scope_is t.kind names) (omega arith) in
       rw (k, v, s, scoped_with_reads false t es (at + 2) to h) refl
   scoped_taken sort t es at to names k s h = clash _ names
 
@@ -149,7 +148,7 @@ module _ (ts : List Token) (b : Bool → ℕ → ℕ → Read Tree) where
   suffix_none_by kinds.LeftBracket next at near = absurd (omega (arith, near (omega arith)))
   suffix_none_by kinds.Arrow next at near = absurd (omega (arith, near (omega arith)))
   suffix_none_by kinds.NullsafeArrow next at near = absurd (omega (arith, near (omega arith)))
-  suffix_none_by kinds.DoubleColon next at near = let far = near (double_colon_near next).0 in absurd (omega (arith, far, (double_colon_near next).1))
+  suffix_none_by kinds.DoubleColon next at near = let d = double_bounds next in let far = near (omega arith) in absurd (omega (arith, far, d.1))
   suffix_none_by kinds.LeftParenthesis next at near = absurd (omega (arith, near (omega arith)))
   suffix_none_by kinds.Increment next at near = absurd (omega (arith, near (omega arith)))
   suffix_none_by kinds.Decrement next at near = absurd (omega (arith, near (omega arith)))
@@ -192,7 +191,7 @@ module _ (ts : List Token) (b : Bool → ℕ → ℕ → Read Tree) where
   -- ---- the class of a `new`
 
   variable_is_first : (t : Token) (at : ℕ) → Stands ts at t → Is ts at kinds.Variable → same_kind t.kind kinds.Variable ≡ true
-  variable_is_first t at s k = same_at t.kind kinds.Variable (sym (kind_is ts at t s) ∙ k)
+  variable_is_first t at s k = same_at t.kind kinds.Variable (sym (stands_kind ts at t s) ∙ k)
 
   class_is_no_variable : (t : Token) → IsTrue (names_class t.kind) → same_kind t.kind kinds.Variable ≡ false
   class_is_no_variable t names = same_not t.kind kinds.Variable (apart names_class t.kind kinds.Variable names refl)
@@ -210,7 +209,7 @@ module _ (ts : List Token) (b : Bool → ℕ → ℕ → Read Tree) where
   named_class_alone : (t : Token) (at : ℕ) (o : Option ℕ) → after ts kinds.DoubleColon at ≡ o → Near ts 2 2 at → named_class ts b t at ≡ Some (NamedClass t, at)
   unfolding named_class behind_class
   named_class_alone t at None e near = rw e refl
-  named_class_alone t at (Some x) e near = rw (e, after_not ts kinds.Variable (at + 1) (no_scope at near (after_kind ts kinds.DoubleColon at x e))) refl
+  named_class_alone t at (Some x) e near = rw (e, after_not ts kinds.Variable (at + 1) (no_scope at near (after_is ts kinds.DoubleColon at x e).0)) refl
 
   pub named_class_reads : (t : Token) (at to : ℕ) → Stands ts at t → IsTrue (names_class t.kind) → to ≡ at + 1 → Near ts 2 2 to → class_reference ts b at ≡ Some (NamedClass t, to)
   unfolding class_reference
@@ -226,7 +225,7 @@ module _ (ts : List Token) (b : Bool → ℕ → ℕ → Read Tree) where
   pub computed_class_reads : (t : Token) (e : Tree) (at to : ℕ) → Stands ts at t → Is ts at kinds.LeftParenthesis → enclosed ts b kinds.LeftParenthesis kinds.RightParenthesis at ≡ Some (e, to) → class_reference ts b at ≡ Some (ComputedClass e, to)
   unfolding class_reference computed_class
   computed_class_reads t e at to s k h =
-      let here : t.kind ≡ kinds.LeftParenthesis = sym (kind_is ts at t s) ∙ k in
+      let here : t.kind ≡ kinds.LeftParenthesis = sym (stands_kind ts at t s) ∙ k in
       let no_variable : same_kind t.kind kinds.Variable ≡ false = same_not t.kind kinds.Variable (λ q. cc) in
       let no_name : names_class t.kind ≡ false = ap names_class here in
       rw (s, no_variable, no_name, h) refl
@@ -241,7 +240,7 @@ module _ (ts : List Token) (b : Bool → ℕ → ℕ → Read Tree) where
   part_insertion : (t : Token) (e : Tree) (at to : ℕ) → Stands ts at t → Is ts at kinds.InsertionStart → enclosed ts b kinds.InsertionStart kinds.InsertionEnd at ≡ Some (e, to) → part_at ts b at ≡ Some (Some (Inserted e, to))
   unfolding part_at part_by inserted
   part_insertion t e at to s k h =
-      let here : t.kind ≡ kinds.InsertionStart = sym (kind_is ts at t s) ∙ k in
+      let here : t.kind ≡ kinds.InsertionStart = sym (stands_kind ts at t s) ∙ k in
       let other : is_part t.kind ≡ false = ap is_part here in
       rw (s, other, same_at t.kind kinds.InsertionStart here, h) refl
 
@@ -252,7 +251,7 @@ module _ (ts : List Token) (b : Bool → ℕ → ℕ → Read Tree) where
   part_none : (t : Token) (at : ℕ) → Stands ts at t → Is ts at kinds.TextEnd → part_at ts b at ≡ Some None
   unfolding part_at part_by
   part_none t at s k =
-      let here : t.kind ≡ kinds.TextEnd = sym (kind_is ts at t s) ∙ k in
+      let here : t.kind ≡ kinds.TextEnd = sym (stands_kind ts at t s) ∙ k in
       let other : is_part t.kind ≡ false = ap is_part here in
       rw (s, other, same_not t.kind kinds.InsertionStart (λ q. cc)) refl
 
@@ -262,13 +261,14 @@ module _ (ts : List Token) (b : Bool → ℕ → ℕ → Read Tree) where
 
   -- ---- further operators
 
-  further_operation : (j : ℕ) (o : BinaryOperator) (e : Tree) (at m to : ℕ) → binary_stratum o ≡ j → Operates ts o at m → Gives ts b false (tighter (binary_stratum o)) e m to → operation_at ts b j at ≡ Some (Some ((o, e), to))
+  further_operation : (j : ℕ) (sign : Token) (o : BinaryOperator) (e : Tree) (at m to : ℕ) → binary_stratum o ≡ j → Operates ts sign o at m → Gives ts b false (tighter (binary_stratum o)) e m to
+      → operation_at ts b j at ≡ Some (Some (operated sign o e, to))
   unfolding operation_at operation_with
-  further_operation j o e at m to q h d = rw (operator_is ts o at m h, eq-eqb (binary_stratum o) j q, ← h.1, d) refl
+  further_operation j sign o e at m to q h d = rw (operator_is ts sign o at m h, eq-eqb (binary_stratum o) j q, h.2, ← h.1, d) refl
 
-  pub operation_taken : (sort : StepSort) (o : BinaryOperator) (e : Tree) (at m to : ℕ) → IsOperation sort o → Operates ts o at m → Gives ts b false (tighter (binary_stratum o)) e m to → Taken ts b sort (Operation sign o e) at to
-  operation_taken (operation j) o e at m to i h d = (i.0, further_operation j o e at m to i.0 h d)
-  operation_taken sort o e at m to i h d = absurd i
+  pub operation_taken : (sort : StepSort) (sign : Token) (o : BinaryOperator) (e : Tree) (at m to : ℕ) → IsOperation sort o → Operates ts sign o at m → Gives ts b false (tighter (binary_stratum o)) e m to → Taken ts b sort (Operation sign o e) at to
+  operation_taken (operation j) sign o e at m to i h d = (i.0, further_operation j sign o e at m to i.0 h d)
+  operation_taken sort sign o e at m to i h d = absurd i
 
   no_operation_by : (j at : ℕ) (o : Option BinaryOperator) → ((x : BinaryOperator) → o ≡ Some x → binary_stratum x ≡ j → ⊥) → operation_by ts b j o at ≡ Some None
   no_operation_by j at None other = refl
@@ -276,7 +276,7 @@ module _ (ts : List Token) (b : Bool → ℕ → ℕ → Read Tree) where
 
   no_operation : (j at : ℕ) → (J ts at ≡ j → ⊥) → operation_at ts b j at ≡ Some None
   unfolding operation_at
-  no_operation j at h = no_operation_by j at (operator_at ts at) (λ x e q. h (operator_joins ts x at e ∙ q))
+  no_operation j at h = no_operation_by j at (operator_at ts at) (λ x e q. h (operator_stratum ts x at e ∙ q))
 
   operation_turns : (j : ℕ) (ss : Steps) (at to : ℕ) → AllTaken ts b (operation j) ss at to → operation_at ts b j to ≡ Some None → Turns (operation_at ts b j) (operation_list ss) at to
   operation_turns j no_step at to h none = (h, none)

@@ -13,15 +13,16 @@ use Rattle.stan_model_grammar.specs.Strata.{kind_at, loosest, prefix_stratum, bi
 use Rattle.stan_model_grammar.specs.Trees.{TypeTree, Tree, node, Single, Brackets, Array, IsSet, Empty, Exit, New, Match, Closure, Arrow, Text, Post, Prefix, Assignment, Chain, Binary, Conditional, Items, Arguments, ClassReference, Steps, no_step, step, Push, Index, Property, Scoped, Call, Increment, Decrement, Operation, Part, Inserted, Further, Body}
 use Rattle.stan_model_grammar.specs.Expressions.{element, arm, suffix, part, operation, IsSomeStep, Operates, Repeats}
 use Rattle.stan_model_grammar.specs.Depth.{is_operation, left_depth, depth}
-use Rattle.stan_expr_law.proofs.InsideLemmas.{is_inside, form_inside, stands_inside}
+use Rattle.stan_expr_rules.proofs.InsideLemmas.{is_inside, form_inside, stands_inside}
 use Rattle.stan_expr_rules.specs.Parse.{first_of, below}
-use Rattle.stan_expr_rules.proofs.Greedy.{Near}
+use Rattle.stan_expr_rules.proofs.Greedy.{Near, first_stands, no_arrow}
 use Rattle.stan_expr_greedy.proofs.Computes.{apart, one_token}
+use Rattle.stan_expr_greedy.proofs.SoundTables.{prefix_bounds, stratum_bounds}
 use Rattle.stan_expr_greedy.proofs.Begins.{clash, begins, tree_begins}
 use Rattle.stan_expr_greedy.proofs.CompleteSteps.{called_is}
 use Rattle.stan_expr_greedy.proofs.CompleteForms.{single_reads, brackets_read, short_array_reads, array_reads, list_reads, is_set_reads, empty_reads, exit_reads, match_reads, text_reads, new_reads, closure_behind, closure_reads, arrow_behind, arrow_reads}
-use Rattle.stan_expr_greedy.proofs.CompleteStrata.{no_pattern, in_each, no_conditional, no_elvis, post_suffixed, post_new, operand_assigned, operand_prefixed, from_operand, chain_level, binary_level, conditional_level}
-use Rattle.stan_expr_greedy.proofs.CompleteStarts.{stratum_in, single_in, right_in, prefix_in, tighter_in, leads, token_of, first_stands, tree_leads}
+use Rattle.stan_expr_greedy.proofs.CompleteStrata.{no_pattern, in_each, no_conditional, no_elvis, post_suffixed, post_arrow, post_new, operand_assigned, operand_prefixed, from_operand, chain_level, binary_level, conditional_level}
+use Rattle.stan_expr_greedy.proofs.CompleteStarts.{single_in, right_in, tighter_in, leads, token_of, arrow_leads, tree_leads}
 use Rattle.stan_expr_greedy.proofs.CompleteClaims.{AtomF, PostF, LevelF, FormC, TreeC, ItemsC, ArgumentsC, ClassC, StepsC, inner, inner_loosest, enclosed_claim}
 use Rattle.stan_expr_greedy.proofs.CompleteClaims.{atom_claims, post_claims, level_claims}
 use Rattle.stan_expr_greedy.proofs.CompleteProductions.{fenced_claim, fenced_some_claim, parameters_claim}
@@ -91,14 +92,15 @@ module _ (ts : List Token) where
   pub closure_claim : (static reference : Bool) (ps captures : Items) (type : Option TypeTree) (held : Body) → ItemsC ts ps → FormC ts (Closure static reference ps captures type held)
   closure_claim static reference ps captures type held c = atom_claims ts (Closure static reference ps captures type held) refl refl (closure_atom static reference ps captures type held c)
 
-  arrow_atom : (static reference : Bool) (ps : Items) (type : Option TypeTree) (t : Tree) → ItemsC ts ps → TreeC ts t → AtomF ts (Arrow static reference ps type t)
-  arrow_atom static reference ps type t cs c n p k at to h d =
+  arrow_post : (static reference : Bool) (ps : Items) (type : Option TypeTree) (t : Tree) → ItemsC ts ps → TreeC ts t → PostF ts (Arrow static reference ps type t)
+  arrow_post static reference ps type t cs c n p k u at to lo s h d =
+      let other = apart leads (kind_at ts at) kinds.New (arrow_leads ts static reference ps type t p k at to h) refl in
       let parameters_are = parameters_claim ts ps cs n h.1 h.2 h.7 (omega arith) in
       let behind = arrow_behind ts (below ts n) static reference ps type t (h.0 + 1) h.1 h.2 h.3 to h.6 h.7.1 parameters_are h.8 h.9 (inner_loosest ts t c n false (h.3 + 1) to h.10 (omega arith)) in
-      arrow_reads ts (below ts n) static reference ps type t at h.0 to h.4 h.5 behind
+      post_arrow ts (below ts n) u (Arrow static reference ps type t) at to s other (arrow_reads ts (below ts n) static reference ps type t at h.0 to h.4 h.5 behind) refl
 
   pub arrow_claim : (static reference : Bool) (ps : Items) (type : Option TypeTree) (t : Tree) → ItemsC ts ps → TreeC ts t → FormC ts (Arrow static reference ps type t)
-  arrow_claim static reference ps type t cs c = atom_claims ts (Arrow static reference ps type t) refl refl (arrow_atom static reference ps type t cs c)
+  arrow_claim static reference ps type t cs c = post_claims ts (Arrow static reference ps type t) refl refl (arrow_post static reference ps type t cs c)
 
   text_atom : (ss : Steps) → StepsC ts ss → AtomF ts (Text ss)
   text_atom ss c n p k at to h d =
@@ -125,7 +127,7 @@ module _ (ts : List Token) where
       let other = apart leads (kind_at ts at) kinds.New (tree_leads ts false t at h.0 h.3) refl in
       let first = one_token ts at (first_of t) u (first_stands ts false 0 t at h.0 h.3) s in
       let near : Near ts 1 4 to = λ le. let far = h.5 le in omega arith in
-      post_suffixed ts (below ts n) u t ss at h.0 to s other (c.0 n u at h.0 s h.3 (omega arith)) first (no_pattern ts 0 t at h.0 h.3) h.2 (cs n suffix h.0 to h.4 tt (omega arith)) near i.1
+      post_suffixed ts (below ts n) u t ss at h.0 to s other (c.0 n u at h.0 s h.3 (omega arith)) first (no_arrow ts false t at h.0 h.3) (no_pattern ts 0 t at h.0 h.3) h.2 (cs n suffix h.0 to h.4 tt (omega arith)) near i.1
 
   pub post_claim : (t : Tree) (ss : Steps) → TreeC ts t → StepsC ts ss → FormC ts (Post t ss)
   post_claim t ss c cs = post_claims ts (Post t ss) refl refl (post_post t ss c cs)
@@ -134,7 +136,7 @@ module _ (ts : List Token) where
 
   prefix_level : (o : PrefixOperator) (t : Tree) → TreeC ts t → LevelF ts (Prefix o t)
   prefix_level o t c n p k u at to lo hi s h d =
-      let stratum = prefix_in o in
+      let stratum = prefix_bounds o in
       from_operand ts (below ts n) p k (node u (Prefix o t)) at to lo h.3 (operand_prefixed ts (below ts n) p u o t at to s h.1 (inner ts t c n false (prefix_stratum o) (at + 1) to stratum.0 stratum.1 h.2 (omega arith)))
 
   pub prefix_claim : (o : PrefixOperator) (t : Tree) → TreeC ts t → FormC ts (Prefix o t)
@@ -151,9 +153,10 @@ module _ (ts : List Token) where
   assignment_claim target o t ct c = level_claims ts (Assignment target o t) refl refl (assignment_level target o t ct c)
 
   -- the first operator of a chain
-  first_operation : (ss : Steps) (j at to : ℕ) → IsSomeStep ss → Repeats ts (Near ts) (operation j) ss at to → (o : BinaryOperator) × (m : ℕ) × Operates ts o at m × (binary_stratum o ≡ j) × (fixity o ≡ fixities.Left)
+  first_operation : (ss : Steps) (j at to : ℕ) → IsSomeStep ss → Repeats ts (Near ts) (operation j) ss at to
+      → (sign : Token) × (o : BinaryOperator) × (m : ℕ) × Operates ts sign o at m × (binary_stratum o ≡ j) × (fixity o ≡ fixities.Left)
   first_operation no_step j at to some h = absurd some
-  first_operation (step (Operation sign o e) xs) j at to some h = (o, h.1.0, h.1.2, h.1.1.0, h.1.1.1)
+  first_operation (step (Operation sign o e) xs) j at to some h = (sign, o, h.1.0, h.1.2, h.1.1.0, h.1.1.1)
   first_operation (step Push xs) j at to some h = absurd h.1.0
   first_operation (step (Index e) xs) j at to some h = absurd h.1.0
   first_operation (step (Property nullsafe name es) xs) j at to some h = absurd h.1.1
@@ -172,25 +175,25 @@ module _ (ts : List Token) where
       let i = form_inside ts (Near ts) (Chain j t ss) p k at to (stands_inside ts at u s) h in
       let operands = tighter_in j h.1 in
       let before = c.2 n p (tighter j) at h.0 operands.0 (omega (arith, operands.1, h.2)) (in_each ts p (tighter j) t at h.0 h.4) (omega (arith, left_deep (is_operation t) (depth t))) in
-      let level = chain_level ts (below ts n) p k j t o.0 ss at h.0 o.1 to h.1 h.2 h.3 h.6 i.1 o.2 o.3 o.4 (no_pattern ts (tighter j) t at h.0 h.4) (no_elvis ts j t at h.0 h.4) before (cs n (operation j) h.0 to h.5 tt (omega arith)) in
+      let level = chain_level ts (below ts n) p k j t o.0 o.1 ss at h.0 o.2 to h.1 h.2 h.3 h.6 i.1 o.3 o.4 o.5 (no_pattern ts (tighter j) t at h.0 h.4) (no_elvis ts j t at h.0 h.4) before (cs n (operation j) h.0 to h.5 tt (omega arith)) in
       rw first at level
 
   pub chain_claim : (j : ℕ) (t : Tree) (ss : Steps) → TreeC ts t → StepsC ts ss → FormC ts (Chain j t ss)
   chain_claim j t ss c cs = level_claims ts (Chain j t ss) refl refl (chain_stratum j t ss c cs)
 
-  binary_stratum_level : (l : Tree) (o : BinaryOperator) (r : Tree) → TreeC ts l → TreeC ts r → LevelF ts (Binary l sign o r)
-  binary_stratum_level l o r cl c n p k u at to lo hi s h d =
-      let stratum = stratum_in o in
+  binary_stratum_level : (l : Tree) (sign : Token) (o : BinaryOperator) (r : Tree) → TreeC ts l → TreeC ts r → LevelF ts (Binary l sign o r)
+  binary_stratum_level l sign o r cl c n p k u at to lo hi s h d =
+      let stratum = stratum_bounds o in
       let low = single_in o h.3 in
       let right = right_in (fixity o) (binary_stratum o) in
       let first = one_token ts at (first_of l) u (first_stands ts false (binary_stratum o - 1) l at h.0 h.4) s in
       let before = cl.2 n p (binary_stratum o - 1) at h.0 (omega arith) (omega arith) (in_each ts p (binary_stratum o - 1) l at h.0 h.4) (omega (arith, left_deep (is_operation l) (depth l))) in
       let behind = inner ts r c n false (right_side (fixity o) (binary_stratum o)) h.1 to (omega arith) (omega arith) h.6 (omega arith) in
-      let level = binary_level ts (below ts n) p k l o r at h.0 h.1 to stratum.0 h.2 h.3 h.7 (no_pattern ts (binary_stratum o - 1) l at h.0 h.4) (no_conditional ts false (binary_stratum o - 1) l at h.0 (omega arith) h.4) before h.5 behind in
+      let level = binary_level ts (below ts n) p k l sign o r at h.0 h.1 to stratum.0 h.2 h.3 h.7 (no_pattern ts (binary_stratum o - 1) l at h.0 h.4) (no_conditional ts false (binary_stratum o - 1) l at h.0 (omega arith) h.4) before h.5 behind in
       rw first at level
 
-  pub binary_claim : (l : Tree) (o : BinaryOperator) (r : Tree) → TreeC ts l → TreeC ts r → FormC ts (Binary l sign o r)
-  binary_claim l o r cl c = level_claims ts (Binary l sign o r) refl refl (binary_stratum_level l o r cl c)
+  pub binary_claim : (l : Tree) (sign : Token) (o : BinaryOperator) (r : Tree) → TreeC ts l → TreeC ts r → FormC ts (Binary l sign o r)
+  binary_claim l sign o r cl c = level_claims ts (Binary l sign o r) refl refl (binary_stratum_level l sign o r cl c)
 
   conditional_stratum : (q l r : Tree) → TreeC ts q → TreeC ts l → TreeC ts r → LevelF ts (Conditional q l r)
   conditional_stratum q l r cq cl cr n p k u at to lo hi s h d =

@@ -1,19 +1,18 @@
 -- What the steps of the parser compute where a token stands, or does not.
-use Rattle.std.proofs.Common.{◌≡◌, ℕ, zero, suc, ◌+◌, ◌≤◌, ◌<◌, Bool, true, false, cond, List, [], ◌∷◌, ◌++◌, Option, Some, None, refl, sym, ap, ◌∙◌, append_assoc, arith, rules}
-use Rattle.std.specs.Prelude.{slice_get}
+use Rattle.std.proofs.Common.{◌≡◌, ℕ, zero, suc, ◌+◌, ◌≤◌, ◌<◌, Bool, true, false, List, [], ◌∷◌, ◌++◌, Option, Some, None, refl, sym, ap, ◌∙◌, append_assoc, arith}
 use Rattle.std.proofs.lemmas.List.{append-nil}
-use denote.Enum.Bare.{same_true, true_same}
-use Rattle.stan_model_grammar.specs.contracts.token.TokenKind.{the_type}
 use Rattle.stan_model_grammar.specs.declared.operators.AssignmentOperator.{AssignmentOperator}
 use Rattle.stan_model_grammar.specs.declared.operators.BinaryOperator.{BinaryOperator}
 use Rattle.stan_model_grammar.specs.declared.token.Token.{Token}
 use Rattle.stan_model_grammar.specs.declared.token.TokenKind.{TokenKind}
 use Rattle.stan_model_grammar.specs.declared.token.TokenKind.TheVariants as kinds
-use Rattle.stan_model_grammar.specs.Strata.{kind_of, kind_at, joins, question, binary_stratum, assignment_at}
+use Rattle.stan_model_grammar.specs.Strata.{kind_at, joins, question, binary_stratum, assignment_at}
 use Rattle.stan_model_grammar.specs.Expressions.{Is, Stands, May, Operates, Assigns}
-use Rattle.stan_expr_rules.specs.Places.{same_kind, after_of, after, may, operator_at, assigning_at}
+use Rattle.stan_expr_rules.specs.Places.{after, may, operator_at, assigning_at}
 use Rattle.stan_expr_rules.specs.Parse.{Turn, many}
 use Rattle.stan_expr_rules.proofs.Greedy.{J}
+use Rattle.stan_expr_greedy.proofs.Reading.{nothing_is, after_to, after_not}
+use Rattle.stan_expr_greedy.proofs.SoundTables.{operator_joins}
 
 -- ---- truth values and options
 
@@ -21,61 +20,11 @@ use Rattle.stan_expr_rules.proofs.Greedy.{J}
 pub apart : {A : Type 0} (test : A → Bool) (a b : A) → test a ≡ true → test b ≡ false → a ≡ b → ⊥
 apart test a b has lacks e = cc (has, lacks, ap test e)
 
-pub not_true : (x : Bool) → (x ≡ true → ⊥) → x ≡ false
-not_true true h = absurd (h refl)
-not_true false h = refl
-
 pub none_of : {A : Type 0} (o : Option A) → ((x : A) → o ≡ Some x → ⊥) → o ≡ None
 none_of None h = refl
 none_of (Some x) h = absurd (h x refl)
 
-guard_not : {A : Type 0} (c : Bool) (x : A) → (c ≡ true → ⊥) → cond c (Some x) None ≡ None
-guard_not true x h = absurd (h refl)
-guard_not false x h = refl
-
-guard_is : {A : Type 0} (c : Bool) (x y : A) → cond c (Some x) None ≡ Some y → c ≡ true
-guard_is true x y h = refl
-guard_is false x y h = absurd cc
-
 -- ---- tokens that stand there, and those that do not
-
-same_is : (a b : TokenKind) → same_kind a b ≡ true → a ≡ b
-unfolding same_kind
-same_is a b h = same_true the_type (search rules) a b h
-
-pub same_at : (a b : TokenKind) → a ≡ b → same_kind a b ≡ true
-unfolding same_kind
-same_at a b e = true_same the_type a b e
-
-pub same_not : (a b : TokenKind) → (a ≡ b → ⊥) → same_kind a b ≡ false
-same_not a b h = not_true (same_kind a b) (λ e. h (same_is a b e))
-
-after_of_at : (o : Option Token) (kind : TokenKind) (at : ℕ) → (kinds.End ≡ kind → ⊥) → kind_of o ≡ kind → after_of o kind at ≡ Some (at + 1)
-after_of_at None kind at some k = absurd (some k)
-after_of_at (Some t) kind at some k = rw (same_at t.kind kind k) refl
-
-pub after_at : (ts : List Token) (kind : TokenKind) (at : ℕ) → (kinds.End ≡ kind → ⊥) → kind_at ts at ≡ kind → after ts kind at ≡ Some (at + 1)
-unfolding after kind_at
-after_at ts kind at some k = after_of_at (slice_get ts at) kind at some k
-
-pub after_to : (ts : List Token) (kind : TokenKind) (at to : ℕ) → (kinds.End ≡ kind → ⊥) → kind_at ts at ≡ kind → to ≡ at + 1 → after ts kind at ≡ Some to
-after_to ts kind at to some k e = rw e (after_at ts kind at some k)
-
-after_of_not : (o : Option Token) (kind : TokenKind) (at : ℕ) → (kind_of o ≡ kind → ⊥) → after_of o kind at ≡ None
-after_of_not None kind at h = refl
-after_of_not (Some t) kind at h = guard_not (same_kind t.kind kind) (at + 1) (λ e. h (same_is t.kind kind e))
-
-pub after_not : (ts : List Token) (kind : TokenKind) (at : ℕ) → (kind_at ts at ≡ kind → ⊥) → after ts kind at ≡ None
-unfolding after kind_at
-after_not ts kind at h = after_of_not (slice_get ts at) kind at h
-
-after_of_kind : (o : Option Token) (kind : TokenKind) (at to : ℕ) → after_of o kind at ≡ Some to → kind_of o ≡ kind
-after_of_kind None kind at to h = absurd cc
-after_of_kind (Some t) kind at to h = same_is t.kind kind (guard_is (same_kind t.kind kind) (at + 1) to h)
-
-pub after_kind : (ts : List Token) (kind : TokenKind) (at to : ℕ) → after ts kind at ≡ Some to → kind_at ts at ≡ kind
-unfolding after kind_at
-after_kind ts kind at to h = after_of_kind (slice_get ts at) kind at to h
 
 -- where another token stands
 pub after_other : (ts : List Token) (kind there : TokenKind) (at : ℕ) → kind_at ts at ≡ there → (there ≡ kind → ⊥) → after ts kind at ≡ None
@@ -94,25 +43,21 @@ pub may_reads : (ts : List Token) (stands : Bool) (kind : TokenKind) (at to : �
 may_reads ts true kind at to some h other = may_at ts kind at to some h.0 h.1
 may_reads ts false kind at to some h other = rw h (may_not ts kind to (other refl))
 
-pub kind_is : (ts : List Token) (at : ℕ) (t : Token) → Stands ts at t → kind_at ts at ≡ t.kind
-unfolding kind_at
-kind_is ts at t e = ap kind_of e
-
 pub one_token : (ts : List Token) (at : ℕ) (t u : Token) → Stands ts at t → Stands ts at u → t ≡ u
 one_token ts at t u e f = let g : (let s : Token → Option Token = Some in s t ≡ s u) = sym e ∙ f in cc
 
 -- ---- operators
 
-pub operates_joins : (ts : List Token) (o : BinaryOperator) (at to : ℕ) → Operates ts o at to → J ts at ≡ binary_stratum o
-operates_joins ts o at to h = rw h.0 refl
+pub operates_joins : (ts : List Token) (sign : Token) (o : BinaryOperator) (at to : ℕ) → Operates ts sign o at to → J ts at ≡ binary_stratum o
+operates_joins ts sign o at to h = operator_joins (kind_at ts at) (kind_at ts (at + 1)) o h.0
 
-pub operator_is : (ts : List Token) (o : BinaryOperator) (at to : ℕ) → Operates ts o at to → operator_at ts at ≡ Some o
+pub operator_is : (ts : List Token) (sign : Token) (o : BinaryOperator) (at to : ℕ) → Operates ts sign o at to → operator_at ts at ≡ Some o
 unfolding operator_at
-operator_is ts o at to h = h.0
+operator_is ts sign o at to h = h.0
 
-pub operator_joins : (ts : List Token) (o : BinaryOperator) (at : ℕ) → operator_at ts at ≡ Some o → J ts at ≡ binary_stratum o
+pub operator_stratum : (ts : List Token) (o : BinaryOperator) (at : ℕ) → operator_at ts at ≡ Some o → J ts at ≡ binary_stratum o
 unfolding operator_at
-operator_joins ts o at h = rw h refl
+operator_stratum ts o at h = operator_joins (kind_at ts at) (kind_at ts (at + 1)) o h
 
 question_not : (next : TokenKind) → (next ≡ kinds.Colon → ⊥) → question next ≡ None
 question_not kinds.Colon h = absurd (h refl)
@@ -127,9 +72,6 @@ unfolding operator_at
 question_is_alone ts at k h = rw (k, question_not (kind_at ts (at + 1)) h) refl
 
 -- ---- assignments
-
-pub nothing_is : {A : Type 0} (x : A) (B : Type 0) → (let s : Option A = None in s ≡ Some x) → B
-nothing_is x B h = absurd cc
 
 assigns_five : (kind next : TokenKind) (o : AssignmentOperator) → assignment_at kind next ≡ Some o → joins kind next ≡ 5
 assigns_five kinds.Assign next o h = refl
@@ -146,7 +88,7 @@ assigns_five kinds.CaretAssign next o h = refl
 assigns_five kinds.ShiftLeftAssign next o h = refl
 assigns_five kinds.ShiftRightAssign next o h = refl
 assigns_five kinds.CoalesceAssign next o h = refl
-assigns_five kind next o h = nothing_is o (joins kind next ≡ 5) h
+assigns_five kind next o h = absurd (nothing_is o h)
 
 pub assigning_not : (ts : List Token) (at : ℕ) → (J ts at ≡ 5 → ⊥) → assigning_at ts at ≡ None
 unfolding assigning_at

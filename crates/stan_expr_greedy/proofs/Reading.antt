@@ -1,6 +1,6 @@
 -- Steps of the parser, taken apart.
-use Rattle.std.proofs.Common.{◌≡◌, ℕ, zero, suc, ◌+◌, Bool, true, false, cond, List, [], ◌∷◌, ◌++◌, Option, Some, None, slice_get, refl, sym, ap, subst, ◌∙◌, append_assoc, append-nil, ◌⊎◌, inl, inr, rules}
-use denote.Enum.Bare.{same_true}
+use Rattle.std.proofs.Common.{◌≡◌, ℕ, zero, suc, ◌+◌, Bool, true, false, cond, List, [], ◌∷◌, ◌++◌, Option, Some, None, refl, sym, subst, ◌∙◌, append_assoc, append-nil, ◌⊎◌, inl, inr, rules}
+use denote.Enum.Bare.{same_true, true_same}
 use Rattle.stan_model_grammar.specs.contracts.token.TokenKind.{the_type}
 use Rattle.stan_model_grammar.specs.declared.token.Token.{Token}
 use Rattle.stan_model_grammar.specs.declared.token.TokenKind.{TokenKind}
@@ -13,10 +13,6 @@ use Rattle.stan_expr_rules.specs.Parse.{Read, Turn, ◌>>=◌, choose, taken, ma
 pub bind_ok : {A B : Type 0} (r : Option A) (f : A → Option B) (y : B) → (r >>= f) ≡ Some y → (x : A) × (r ≡ Some x) × (f x ≡ Some y)
 bind_ok (Some x) f y e = (x, refl, e)
 bind_ok None f y e = absurd cc
-
-pub see : {A : Type 0} (o : Option A) → (o ≡ None) ⊎ ((x : A) × (o ≡ Some x))
-see None = inl refl
-see (Some x) = inr (x, refl)
 
 pub some_is : {A : Type 0} (x y : A) → (let s : A → Option A = Some in s x ≡ s y) → x ≡ y
 some_is x y e = cc
@@ -50,13 +46,14 @@ taken_none None h = cc
 pub none_is_not : {A : Type 0} (x : A) → (let s : Option A → Option (Option A) = Some in s None ≡ s (Some x)) → ⊥
 none_is_not x h = cc
 
-pub some_is_not : {A : Type 0} (x : A) → (let s : Option A → Option (Option A) = Some in s (Some x) ≡ s None) → ⊥
-some_is_not x h = cc
-
 pub nothing_is : {A : Type 0} (x : A) → (let s : Option A = None in s ≡ Some x) → ⊥
 nothing_is x h = cc
 
 -- ---- tests
+
+pub not_true : (x : Bool) → (x ≡ true → ⊥) → x ≡ false
+not_true true h = absurd (h refl)
+not_true false h = refl
 
 pub choose_is : {A : Type 0} (o : Option ℕ) (f : ℕ → A) (other y : A) → choose o f other ≡ y → ((to : ℕ) × (o ≡ Some to) × (f to ≡ y)) ⊎ ((o ≡ None) × (other ≡ y))
 choose_is (Some to) f other y h = inl (to, refl, h)
@@ -82,14 +79,12 @@ pub same_is : (a b : TokenKind) → same_kind a b ≡ true → a ≡ b
 unfolding same_kind
 same_is a b h = same_true the_type (search rules) a b h
 
-pub same_self : (a : TokenKind) → same_kind a a ≡ true
+pub same_at : (a b : TokenKind) → a ≡ b → same_kind a b ≡ true
 unfolding same_kind
-same_self kinds.LeftParenthesis = refl
-same_self a = refl
+same_at a b e = true_same the_type a b e
 
-pub stands_is : (ts : List Token) (at : ℕ) (t : Token) → slice_get ts at ≡ Some t → kind_at ts at ≡ t.kind
-unfolding kind_at
-stands_is ts at t h = ap kind_of h
+pub same_not : (a b : TokenKind) → (a ≡ b → ⊥) → same_kind a b ≡ false
+same_not a b h = not_true (same_kind a b) (λ e. h (same_is a b e))
 
 after_of_is : (o : Option Token) (kind : TokenKind) (at to : ℕ) → after_of o kind at ≡ Some to → (kind_of o ≡ kind) × (to ≡ at + 1)
 after_of_is None kind at to h = absurd cc
@@ -101,7 +96,7 @@ after_is ts kind at to h = after_of_is _ kind at to h
 
 after_of_at : (o : Option Token) (kind : TokenKind) (at : ℕ) → (kinds.End ≡ kind → ⊥) → kind_of o ≡ kind → after_of o kind at ≡ Some (at + 1)
 after_of_at None kind at some k = absurd (some k)
-after_of_at (Some x) kind at some k = rw (k, same_self kind) refl
+after_of_at (Some x) kind at some k = rw (same_at x.kind kind k) refl
 
 pub after_at : (ts : List Token) (kind : TokenKind) (at : ℕ) → (kinds.End ≡ kind → ⊥) → kind_at ts at ≡ kind → after ts kind at ≡ Some (at + 1)
 unfolding after kind_at

@@ -1,5 +1,5 @@
 -- What the parser reads is a greedy tree.
-use Rattle.std.proofs.Common.{◌≡◌, ℕ, zero, suc, ◌+◌, ◌-◌, ◌≤◌, ◌<◌, ◌==◌, ◌&&◌, not, Bool, true, false, List, [], ◌∷◌, length, Option, Some, None, slice_get, refl, sym, ap, subst, ◌∙◌, arith, ◌⊎◌, inl, inr}
+use Rattle.std.proofs.Common.{◌≡◌, ℕ, zero, suc, ◌+◌, ◌-◌, ◌≤◌, ◌<◌, ◌==◌, ◌&&◌, not, Bool, true, false, true≢false, cond, List, [], ◌∷◌, length, Option, Some, None, slice_get, refl, sym, ap, subst, ◌∙◌, arith, ◌⊎◌, inl, inr}
 use Rattle.std.proofs.lemmas.Bool.{eqb-true}
 use Rattle.std.proofs.lemmas.Bool.Decides.{eqb_tells}
 use Rattle.stan_model_grammar.specs.declared.operators.ArrayStyle.TheVariants as styles
@@ -13,18 +13,17 @@ use Rattle.stan_model_grammar.specs.declared.token.TokenKind.TheVariants as kind
 use Rattle.stan_model_grammar.specs.Strata.{kind_at, leaf_low, loosest, binary_size, binary_stratum, fixity, tighter, right_side, prefix_of, prefix_stratum, assignment_size}
 use Rattle.stan_model_grammar.specs.Trees.{Tree, node, Form, Single, Brackets, Array, IsSet, Empty, Exit, New, Match, Closure, Arrow, Text, Post, Prefix, Assignment, Chain, Binary, Conditional, Steps, no_step, step, Step, Property, Scoped, Operation, Further, is_pattern}
 use Rattle.stan_model_grammar.specs.Expressions.{suffix, operation, IsSomeStep, Is, Forms, Repeats, StepReads, is_assignable}
-use Rattle.stan_model_grammar.specs.TreeLists.{steps, operation_steps}
+use Rattle.stan_model_grammar.specs.TreeLists.{Operated, steps, operation_steps}
 use Rattle.stan_expr_rules.specs.Places.{same_kind, after, joins_at, operator_at, assigning_at}
-use Rattle.stan_expr_rules.specs.Parse.{Read, all, first_of, is_conditional, with_suffixes, with_operations, form_by, atom_with, suffixes, post_with, new, new_with, post, assigned, target_by, target, prefixed, operand_by, operand, operation_with, operation_by, operation_at, operations, chain, binary, conditional, by_fixity, operated_by, operated, stratum, strata, below, expression_at}
-use Rattle.stan_expr_rules.proofs.Greedy.{J, Near, Greedy, Picks, extend, plain}
-use Rattle.stan_expr_greedy.proofs.Reading.{bind_ok, gives, made_of, taken_is, taken_none, none_is_not, nothing_is, if_is, guard_ok, guard_not, same_is, stands_is, after_is, Seq, many_sound}
-use Rattle.stan_expr_greedy.proofs.SoundTables.{stratum_bounds, stratum_other, tighter_bounds, right_bounds, prefix_bounds, same_fixity, operator_joins, is_question, question_stratum, no_assignment}
+use Rattle.stan_expr_rules.specs.Parse.{Read, all, first_of, stands_conditional, is_conditional, is_arrow, suffixed, with_suffixes, with_operations, form_by, atom_with, suffixes, post_with, new, new_with, post, assigned, target_by, target, prefixed, operand_by, operand, operation_with, operation_by, operation_at, operations, chain, binary, conditional, by_fixity, operated_by, operated, stratum, strata, below, expression_at}
+use Rattle.stan_expr_rules.proofs.Greedy.{J, Near, Greedy, Picks, first_stands, leaf_is_none, no_arrow, extend, plain}
+use Rattle.stan_expr_rules.proofs.InsideLemmas.{stands_kind}
+use Rattle.stan_expr_greedy.proofs.Reading.{bind_ok, gives, made_of, taken_is, taken_none, none_is_not, nothing_is, if_is, guard_ok, guard_not, same_is, after_is, Seq, many_sound}
+use Rattle.stan_expr_greedy.proofs.Computes.{operator_stratum}
+use Rattle.stan_expr_greedy.proofs.SoundTables.{stratum_bounds, stratum_other, tighter_bounds, right_bounds, prefix_bounds, same_fixity, is_question, question_stratum, no_assignment}
 use Rattle.stan_expr_greedy.proofs.SoundItems.{Sound}
 use Rattle.stan_expr_greedy.proofs.SoundSteps.{suffixes_sound, new_sound}
-use Rattle.stan_expr_greedy.proofs.SoundForms.{form_by_sound}
-
-first_stands : (ts : List Token) (p : Bool) (k : ℕ) (e : Tree) (from to : ℕ) → Greedy ts p k e from to → slice_get ts from ≡ Some (first_of e)
-first_stands ts p k (node t f) from to h = h.0
+use Rattle.stan_expr_greedy.proofs.SoundForms.{IsAlone, form_by_sound}
 
 allowed : (p x : Bool) → (x && not p) ≡ false → (p ≡ true) ⊎ (x ≡ false)
 allowed true x h = inl refl
@@ -61,7 +60,7 @@ lower_form ts p t (Exit es) from to c h = (h.0, h.1, nearer ts 1 to h.2)
 lower_form ts p t (New k es) from to c h = (h.0, omega arith, h.2, h.3, h.4, nearer ts 5 to h.5)
 lower_form ts p t (Match e arms) from to c h = (h.0, h.1, h.2, h.3, nearer ts 1 to h.4)
 lower_form ts p t (Closure u v w x y z) from to c h = (h.0, h.1, h.2, h.3, h.4, h.5, h.6, h.7, h.8, h.9, h.10, h.11, nearer ts 1 to h.12)
-lower_form ts p t (Arrow u v w x y) from to c h = (h.0, h.1, h.2, h.3, h.4, h.5, h.6, h.7, h.8, h.9, h.10, nearer ts 1 to h.11)
+lower_form ts p t (Arrow u v w x y) from to c h = (h.0, h.1, h.2, h.3, h.4, h.5, h.6, h.7, h.8, h.9, h.10, nearer ts 5 to h.11, omega arith)
 lower_form ts p t (Text parts) from to c h = (h.0, nearer ts 1 to h.1)
 lower_form ts p t (Post e ss) from to c h = (h.0, omega arith, h.2, h.3, h.4, nearer ts 1 to h.5)
 lower_form ts p t (Prefix o e) from to c h = (omega arith, h.1, h.2, nearer ts 6 to h.3)
@@ -84,6 +83,7 @@ lower ts p (node t f) from to c h = (h.0, lower_form ts p t f from to c h.1)
 -- a conditional is one of stratum 23
 raise_form : (ts : List Token) (p : Bool) (t : Token) (f : Form) (from to : ℕ) → is_conditional (node t f) ≡ true → Forms ts (Near ts) p 22 f from to → Forms ts (Near ts) p 23 f from to
 raise_form ts p t (Conditional x y z) from to c h = (h.0, h.1, omega arith, h.3, h.4, h.5, h.6, h.7, λ le. omega arith)
+raise_form ts p t (Single leaf) from to c h = absurd (true≢false (sym c ∙ leaf_is_none stands_conditional refl refl refl refl leaf))
 raise_form ts p t f from to c h = absurd cc
 
 raise : (ts : List Token) (p : Bool) (t : Tree) (from to : ℕ) → is_conditional t ≡ true → Greedy ts p 22 t from to → Greedy ts p 23 t from to
@@ -114,10 +114,20 @@ module _ (ts : List Token) (b : Bool → ℕ → ℕ → Read Tree) (ih : Sound 
   abbrev IsAppended : Tree → ℕ → ℕ → Type 0
   IsAppended e at to = (k : ℕ) → 4 ≤ k → Near ts 5 k to → Greedy ts true k e at to
 
-  atom_sound : (at : ℕ) (t : Token) (x : Tree × ℕ) → slice_get ts at ≡ Some t → atom_with ts b t at ≡ Some x → IsAtomic x.0 at x.1
+  -- a tree to which something may be appended, or an arrow function
+  abbrev IsFirst : Tree → ℕ → ℕ → Type 0
+  IsFirst e at to = IsAtomic e at to ⊎ ((is_arrow e ≡ true) × IsAppended e at to)
+
+  first_form : (at : ℕ) (t : Token) (f : Form × ℕ) → slice_get ts at ≡ Some t → IsAlone ts b ih f.0 at f.1 → IsFirst (node t f.0) at f.1
+  first_form at t f s h = elim h [
+    | inl a ↦ inl (λ k stop. (s, a k stop))
+    | inr a ↦ inr (a.0, λ k le stop. (s, a.1 k le stop))
+  ]
+
+  atom_sound : (at : ℕ) (t : Token) (x : Tree × ℕ) → slice_get ts at ≡ Some t → atom_with ts b t at ≡ Some x → IsFirst x.0 at x.1
   unfolding atom_with
   atom_sound at t x s h =
-      made_of (form_by ts b t.kind at) (λ f. node t f) (λ y to. IsAtomic y at to) x (λ f q k stop. (s, form_by_sound ts b ih t.kind at f (stands_is ts at t s) q k stop)) h
+      made_of (form_by ts b t.kind at) (λ f. node t f) (λ y to. IsFirst y at to) x (λ f q. first_form at t f s (form_by_sound ts b ih t.kind at f (stands_kind ts at t s) q)) h
 
   with_suffixes_sound : (at m to : ℕ) (e : Tree) (ss : List Step) (x : Tree × ℕ) → IsAtomic e at m → Repeats ts (Near ts) suffix (steps ss) m to → (0 < J ts to → 4 < J ts to)
       → with_suffixes e ss to ≡ Some x → IsAppended x.0 at x.1
@@ -130,20 +140,32 @@ module _ (ts : List Token) (b : Bool → ℕ → ℕ → Read Tree) (ih : Sound 
       gives (λ y z. IsAppended y at z) (node (first_of e) (Post e (steps (s ∷ ss))), to) x still.1
       (λ k le stop. (first_stands ts false 0 e at m g, (m, le, tt, g, r, λ least. let far = n least in stop far)))
 
+  suffixed_sound : (at m : ℕ) (e : Tree) (x : Tree × ℕ) → IsAtomic e at m → suffixed ts b e m ≡ Some x → IsAppended x.0 at x.1
+  unfolding suffixed
+  suffixed_sound at m e x a h =
+      let ss = bind_ok (suffixes ts b m) _ x h in
+      let r = suffixes_sound ts b ih m ss.0 ss.1 in
+      with_suffixes_sound at m ss.0.1 e ss.0.0 x a r.0 r.1 ss.2
+
+  -- with what is appended to it, unless it is an arrow function
+  appended_sound : (at m : ℕ) (e : Tree) (x : Tree × ℕ) → IsFirst e at m → cond (is_arrow e) (Some (e, m)) (suffixed ts b e m) ≡ Some x → IsAppended x.0 at x.1
+  appended_sound at m e x (inl a) h =
+      let none : is_arrow e ≡ false = no_arrow ts true e at m (a 0 (λ least. least)) in
+      suffixed_sound at m e x a (rw none at h)
+  appended_sound at m e x (inr a) h = gives (λ y to. IsAppended y at to) (e, m) x (rw a.0 at h) a.1
+
   post_with_sound : (at : ℕ) (t : Token) (x : Tree × ℕ) → slice_get ts at ≡ Some t → post_with ts b t at ≡ Some x → IsAppended x.0 at x.1
   unfolding post_with
   post_with_sound at t x s h =
       let e = bind_ok (atom_with ts b t at) _ x h in
-      let ss = bind_ok (suffixes ts b e.0.1) _ x e.2 in
-      let r = suffixes_sound ts b ih e.0.1 ss.0 ss.1 in
-      with_suffixes_sound at e.0.1 ss.0.1 e.0.0 ss.0.0 x (atom_sound at t e.0 s e.1) r.0 r.1 ss.2
+      appended_sound at e.0.1 e.0.0 x (atom_sound at t e.0 s e.1) e.2
 
   post_sound : (at : ℕ) (t : Token) (x : Tree × ℕ) → slice_get ts at ≡ Some t → post ts b t at ≡ Some x → IsAppended x.0 at x.1
   unfolding post new_with
   post_sound at t x s h =
       elim (if_is (same_kind t.kind kinds.New) _ _ _ h) [
         | inl e ↦
-            let w : kind_at ts at ≡ kinds.New = stands_is ts at t s ∙ same_is t.kind kinds.New e.0 in
+            let w : kind_at ts at ≡ kinds.New = stands_kind ts at t s ∙ same_is t.kind kinds.New e.0 in
             made_of (new ts b (at + 1)) (λ f. node t f) (λ y to. IsAppended y at to) x (λ f q k le stop. (s, new_sound ts b ih at f w q true k le stop)) e.1
         | inr e ↦ post_with_sound at t x s e.1
       ]
@@ -179,7 +201,7 @@ module _ (ts : List Token) (b : Bool → ℕ → ℕ → Read Tree) (ih : Sound 
       → prefixed ts b t o (at + 1) ≡ Some x → Greedy ts p 5 x.0 at x.1
   unfolding prefixed
   prefixed_sound p at t o x s k h =
-      let w : prefix_of (kind_at ts at) ≡ Some o = ap prefix_of (stands_is ts at t s) ∙ k in
+      let w : prefix_of (kind_at ts at) ≡ Some o = ap prefix_of (stands_kind ts at t s) ∙ k in
       let n = prefix_bounds o in
       made_of (b false (prefix_stratum o) (at + 1)) (λ v. node t (Prefix o v)) (λ y to. Greedy ts p 5 y at to) x
       (λ v q. (s, (omega arith, w, ih false (prefix_stratum o) (at + 1) v n.0 n.1 q, λ least. least))) h
@@ -197,22 +219,24 @@ module _ (ts : List Token) (b : Bool → ℕ → ℕ → Read Tree) (ih : Sound 
 
   -- ---- chains
 
-  abbrev IsOperated : ℕ → BinaryOperator × Tree → ℕ → ℕ → Type 0
-  IsOperated j o = StepReads ts (Near ts) (operation j) (Operation o.0 o.1)
+  abbrev IsOperated : ℕ → Operated → ℕ → ℕ → Type 0
+  IsOperated j o = StepReads ts (Near ts) (operation j) (Operation o.token o.operator o.operand)
 
-  are_operations : (j : ℕ) (os : List (BinaryOperator × Tree)) (at to : ℕ) → Seq (IsOperated j) os at to → Repeats ts (Near ts) (operation j) (operation_steps os) at to
+  are_operations : (j : ℕ) (os : List Operated) (at to : ℕ) → Seq (IsOperated j) os at to → Repeats ts (Near ts) (operation j) (operation_steps os) at to
   are_operations j [] at to s = s
   are_operations j (x ∷ os) at to s = (s.0, s.1, are_operations j os s.0 to s.2)
 
-  operated_with_sound : (j at : ℕ) (o : BinaryOperator) (x : (BinaryOperator × Tree) × ℕ) → operator_at ts at ≡ Some o → binary_stratum o ≡ j → fixity o ≡ fixities.Left
-      → operation_with ts b o (at + binary_size o) ≡ Some x → IsOperated j x.0 at x.1
+  operated_with_sound : (j at : ℕ) (o : BinaryOperator) (x : Operated × ℕ) → operator_at ts at ≡ Some o → binary_stratum o ≡ j → fixity o ≡ fixities.Left
+      → operation_with ts b o at ≡ Some x → IsOperated j x.0 at x.1
   unfolding operation_with operator_at
   operated_with_sound j at o x s k f h =
       let n = tighter_bounds o in
-      made_of (b false (tighter (binary_stratum o)) (at + binary_size o)) (λ v. (o, v)) (λ y to. IsOperated j y at to) x
-      (λ v q. (at + binary_size o, (k, f), (s, refl), ih false (tighter (binary_stratum o)) (at + binary_size o) v n.0 n.1 q)) h
+      let t = bind_ok (slice_get ts at) _ x h in
+      let made : Tree → Operated = λ v. record { token = t.0; operator = o; operand = v } in
+      made_of (b false (tighter (binary_stratum o)) (at + binary_size o)) made (λ y to. IsOperated j y at to) x
+      (λ v q. (at + binary_size o, (k, f), (s, refl, t.1), ih false (tighter (binary_stratum o)) (at + binary_size o) v n.0 n.1 q)) t.2
 
-  operation_by_sound : (j at : ℕ) (o : Option BinaryOperator) (x : (BinaryOperator × Tree) × ℕ)
+  operation_by_sound : (j at : ℕ) (o : Option BinaryOperator) (x : Operated × ℕ)
       → ((u : BinaryOperator) → binary_stratum u ≡ j → fixity u ≡ fixities.Left) → operator_at ts at ≡ o
       → operation_by ts b j o at ≡ Some (Some x) → IsOperated j x.0 at x.1
   operation_by_sound j at None x left s h = absurd (none_is_not x h)
@@ -222,7 +246,7 @@ module _ (ts : List Token) (b : Bool → ℕ → ℕ → Read Tree) (ih : Sound 
         | inr e ↦ absurd (none_is_not x e.1)
       ]
 
-  operation_sound : (j : ℕ) → ((u : BinaryOperator) → binary_stratum u ≡ j → fixity u ≡ fixities.Left) → (at : ℕ) (x : (BinaryOperator × Tree) × ℕ)
+  operation_sound : (j : ℕ) → ((u : BinaryOperator) → binary_stratum u ≡ j → fixity u ≡ fixities.Left) → (at : ℕ) (x : Operated × ℕ)
       → operation_at ts b j at ≡ Some (Some x) → IsOperated j x.0 at x.1
   unfolding operation_at
   operation_sound j left at x h = operation_by_sound j at (operator_at ts at) x left refl h
@@ -234,10 +258,6 @@ module _ (ts : List Token) (b : Bool → ℕ → ℕ → Read Tree) (ih : Sound 
       let q = is_question (kind_at ts at) (kind_at ts (at + 1)) s (omega arith) (omega arith) in
       (q, sym e ∙ question_stratum (kind_at ts at) (kind_at ts (at + 1)) q s)
 
-  operator_stratum : (at : ℕ) (o : BinaryOperator) → operator_at ts at ≡ Some o → J ts at ≡ binary_stratum o
-  unfolding operator_at
-  operator_stratum at o s = operator_joins (kind_at ts at) (kind_at ts (at + 1)) o s
-
   operation_by_none : (j at : ℕ) (o : Option BinaryOperator) → 6 ≤ j → j ≤ 29 → (j ≡ 22 → ⊥) → operator_at ts at ≡ o → operation_by ts b j o at ≡ Some None → J ts at ≡ j → ⊥
   operation_by_none j at None lo hi other s h e = let u = unoperated j at lo hi s e in other u.1
   operation_by_none j at (Some o) lo hi other s h e =
@@ -246,18 +266,18 @@ module _ (ts : List Token) (b : Bool → ℕ → ℕ → Read Tree) (ih : Sound 
           | inl f ↦ taken_none _ f.1
           | inr f ↦ cc
         ]
-        | inr t ↦ t.1 (sym (operator_stratum at o s) ∙ e)
+        | inr t ↦ t.1 (sym (operator_stratum ts o at s) ∙ e)
       ]
 
   operation_none : (j at : ℕ) → 6 ≤ j → j ≤ 29 → (j ≡ 22 → ⊥) → operation_at ts b j at ≡ Some None → J ts at ≡ j → ⊥
   unfolding operation_at
   operation_none j at lo hi other h e = operation_by_none j at (operator_at ts at) lo hi other refl h e
 
-  with_operations_sound : (p : Bool) (j at m to : ℕ) (e : Tree) (os : List (BinaryOperator × Tree)) → 6 ≤ j → J ts m ≡ j → (J ts to ≡ j → ⊥) → Greedy ts false (tighter j) e at m
+  with_operations_sound : (p : Bool) (j at m to : ℕ) (e : Tree) (os : List Operated) → 6 ≤ j → J ts m ≡ j → (J ts to ≡ j → ⊥) → Greedy ts false (tighter j) e at m
       → Seq (IsOperated j) os m to → Greedy ts p j (with_operations e os) at to
   with_operations_sound p j at m to e [] lo here apart g s = absurd (apart (subst (λ y. J ts y ≡ j) s here))
   with_operations_sound p j at m to e (o ∷ os) lo here apart g s =
-      let k : binary_stratum o.0 ≡ j = s.1.1.0 in
+      let k : binary_stratum o.operator ≡ j = s.1.1.0 in
       let c : Greedy ts p j (node (first_of e) (Chain j e (operation_steps (o ∷ os)))) at to =
       (first_stands ts false (tighter j) e at m g, (m, lo, omega arith, tt, g, are_operations j (o ∷ os) m to s, λ least. grind (arith, apart))) in
       subst (λ y. Greedy ts p j (node (first_of e) (Chain y e (operation_steps (o ∷ os)))) at to) (sym k) c
@@ -279,15 +299,16 @@ module _ (ts : List Token) (b : Bool → ℕ → ℕ → Read Tree) (ih : Sound 
 
   binary_sound : (p : Bool) (at m : ℕ) (o : BinaryOperator) (d : Tree) (x : Tree × ℕ) → operator_at ts m ≡ Some o → (fixity o ≡ fixities.Left → ⊥)
       → Greedy ts false (binary_stratum o - 1) d at m
-      → binary ts b d o (m + binary_size o) ≡ Some x → Greedy ts p (binary_stratum o) x.0 at x.1
+      → binary ts b d o m ≡ Some x → Greedy ts p (binary_stratum o) x.0 at x.1
   unfolding binary operator_at
   binary_sound p at m o d x s f g h =
       let n = right_bounds o in
-      made_of (b false (right_side (fixity o) (binary_stratum o)) (m + binary_size o)) (λ v. node (first_of d) (Binary d o v)) (λ y to. Greedy ts p (binary_stratum o) y at to) x
+      let t = bind_ok (slice_get ts m) _ x h in
+      made_of (b false (right_side (fixity o) (binary_stratum o)) (m + binary_size o)) (λ v. node (first_of d) (Binary d t.0 o v)) (λ y to. Greedy ts p (binary_stratum o) y at to) x
       (λ v q. (
         first_stands ts false (binary_stratum o - 1) d at m g,
-        (m, m + binary_size o, omega arith, f, g, (s, refl), ih false (right_side (fixity o) (binary_stratum o)) (m + binary_size o) v n.0 n.1 q, λ least. omega arith),
-      )) h
+        (m, m + binary_size o, omega arith, f, g, (s, refl, t.1), ih false (right_side (fixity o) (binary_stratum o)) (m + binary_size o) v n.0 n.1 q, λ least. omega arith),
+      )) t.2
 
   conditional_sound : (p : Bool) (at m : ℕ) (c : Tree) (x : Tree × ℕ) → Is ts m kinds.Question → Greedy ts false 21 c at m → conditional ts b c (m + 1) ≡ Some x → Greedy ts p 22 x.0 at x.1
   unfolding conditional
@@ -314,7 +335,7 @@ module _ (ts : List Token) (b : Bool → ℕ → ℕ → Read Tree) (ih : Sound 
   by_fixity_sound : (p : Bool) (at m : ℕ) (k : Fixity) (o : BinaryOperator) (e : Tree) (x : Tree × ℕ) → fixity o ≡ k → operator_at ts m ≡ Some o
       → Greedy ts false (tighter (binary_stratum o)) e at m
       → Greedy ts false (binary_stratum o - 1) e at m → by_fixity ts b k o e m ≡ Some x → Greedy ts p (binary_stratum o) x.0 at x.1
-  by_fixity_sound p at m fixities.Left o e x k s g w h = chain_sound p (binary_stratum o) at m o e x refl k (operator_stratum m o s) g h
+  by_fixity_sound p at m fixities.Left o e x k s g w h = chain_sound p (binary_stratum o) at m o e x refl k (operator_stratum ts o m s) g h
   by_fixity_sound p at m f o e x k s g w h = binary_sound p at m o e x s (λ q. cc) w h
 
   operated_by_sound : (p : Bool) (j at m : ℕ) (o : Option BinaryOperator) (e : Tree) (x : Tree × ℕ) → 6 ≤ j → j ≤ 29 → J ts m ≡ j → operator_at ts m ≡ o → Greedy ts false (tighter j) e at m
@@ -324,7 +345,7 @@ module _ (ts : List Token) (b : Bool → ℕ → ℕ → Read Tree) (ih : Sound 
       let v : Greedy ts false 21 e at m = subst (λ y. Greedy ts false (y - 1) e at m) u.1 w in
       subst (λ y. Greedy ts p y x.0 at x.1) (sym u.1) (conditional_sound p at m e x u.0 v h)
   operated_by_sound p j at m (Some o) e x lo hi here s g w h =
-      let k : j ≡ binary_stratum o = sym here ∙ operator_stratum m o s in
+      let k : j ≡ binary_stratum o = sym here ∙ operator_stratum ts o m s in
       subst (λ y. Greedy ts p y x.0 at x.1) (sym k)
       (by_fixity_sound p at m (fixity o) o e x refl s (subst (λ y. Greedy ts false (tighter y) e at m) k g) (subst (λ y. Greedy ts false (y - 1) e at m) k w) h)
 

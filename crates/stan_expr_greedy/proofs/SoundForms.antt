@@ -1,5 +1,5 @@
 -- What the parser reads of expressions that stand alone, if what it reads a level deeper is greedy.
-use Rattle.std.proofs.Common.{◌≡◌, ℕ, ◌+◌, ◌<◌, Bool, true, false, List, Option, Some, None, refl, ap, subst, inl, inr}
+use Rattle.std.proofs.Common.{◌≡◌, ◌⊎◌, ℕ, ◌+◌, ◌≤◌, ◌<◌, Bool, true, false, List, Option, Some, None, refl, ap, subst, inl, inr}
 use Rattle.stan_model_grammar.specs.declared.operators.ArrayStyle.TheVariants as styles
 use Rattle.stan_model_grammar.specs.declared.operators.Leaf.{Leaf}
 use Rattle.stan_model_grammar.specs.declared.operators.Leaf.TheVariants as leaves
@@ -7,11 +7,11 @@ use Rattle.stan_model_grammar.specs.declared.token.Token.{Token}
 use Rattle.stan_model_grammar.specs.declared.token.TokenKind.{TokenKind}
 use Rattle.stan_model_grammar.specs.declared.token.TokenKind.TheVariants as kinds
 use Rattle.stan_model_grammar.specs.Strata.{kind_at, leaf_of, leaf_low, loosest, is_exit}
-use Rattle.stan_model_grammar.specs.Trees.{Tree, Form, Single, Brackets, Array, IsSet, Empty, Exit, Match, Closure, Arrow, Text}
+use Rattle.stan_model_grammar.specs.Trees.{Tree, Form, Single, Brackets, Array, IsSet, Empty, Exit, Match, Closure, Arrow, Text, form_production}
 use Rattle.stan_model_grammar.specs.Expressions.{element, expression, arm, Is, May, Forms}
 use Rattle.stan_model_grammar.specs.TreeLists.{steps}
 use Rattle.stan_expr_rules.specs.Places.{after, may}
-use Rattle.stan_expr_rules.specs.Parse.{Read, enclosed, fenced, fenced_some, element_at, positional, arm_at, parameters, may_capture, may_return, body, brackets, short_array, long_array, is_set, empty, exit, match_form, closure, arrow, parts, text, leaf, static_word, form_by, may_be_called}
+use Rattle.stan_expr_rules.specs.Parse.{Read, stands_arrow, enclosed, fenced, fenced_some, element_at, positional, arm_at, parameters, may_capture, may_return, body, brackets, short_array, long_array, is_set, empty, exit, match_form, closure, arrow, parts, text, leaf, static_word, form_by, may_be_called}
 use Rattle.stan_expr_rules.proofs.Greedy.{J, Near}
 use Rattle.stan_expr_greedy.proofs.Reading.{bind_ok, gives, made_of, nothing_is, choose_is, after_is, after_none, may_is}
 use Rattle.stan_expr_greedy.proofs.SoundParts.{may_return_sound, body_sound}
@@ -23,6 +23,13 @@ module _ (ts : List Token) (b : Bool → ℕ → ℕ → Read Tree) (ih : Sound 
   -- it stands in a stratum in which nothing goes on with it
   abbrev pub IsAtom : Form → ℕ → ℕ → Type 0
   IsAtom f at to = (k : ℕ) → Near ts 1 k to → Forms ts (Near ts) true k f at to
+
+  -- an arrow function, which stands where a `new` does
+  abbrev pub IsArrow : Form → ℕ → ℕ → Type 0
+  IsArrow f at to = (stands_arrow (form_production f) ≡ true) × ((k : ℕ) → 4 ≤ k → Near ts 5 k to → Forms ts (Near ts) true k f at to)
+
+  abbrev pub IsAlone : Form → ℕ → ℕ → Type 0
+  IsAlone f at to = IsAtom f at to ⊎ IsArrow f at to
 
   brackets_sound : (at : ℕ) (x : Form × ℕ) → brackets ts b at ≡ Some x → IsAtom x.0 at x.1
   unfolding brackets
@@ -103,7 +110,7 @@ module _ (ts : List Token) (b : Bool → ℕ → ℕ → Read Tree) (ih : Sound 
         stop,
       )) t.2
 
-  arrow_sound : (static : Bool) (at a : ℕ) (x : Form × ℕ) → May ts static kinds.Static at a → Is ts a kinds.Fn → arrow ts b static (a + 1) ≡ Some x → IsAtom x.0 at x.1
+  arrow_sound : (static : Bool) (at a : ℕ) (x : Form × ℕ) → May ts static kinds.Static at a → Is ts a kinds.Fn → arrow ts b static (a + 1) ≡ Some x → IsArrow x.0 at x.1
   unfolding arrow
   arrow_sound static at a x s w h =
       let r = may ts kinds.Ampersand (a + 1) in
@@ -111,20 +118,24 @@ module _ (ts : List Token) (b : Bool → ℕ → ℕ → Read Tree) (ih : Sound 
       let t = bind_ok (may_return ts ps.0.1) _ x ps.2 in
       let f = bind_ok (after ts kinds.DoubleArrow t.0.1) _ x t.2 in
       let d = after_is ts kinds.DoubleArrow t.0.1 f.0 f.1 in
-      made_of (b false loosest f.0) (λ v. Arrow static r.0 ps.0.0 t.0.0 v) (λ y to. IsAtom y at to) x
-      (λ v q k stop. (
-        a,
-        r.1,
-        ps.0.1,
-        t.0.1,
-        s,
-        w,
-        may_is ts kinds.Ampersand (a + 1),
-        parameters_sound ts b ih r.1 ps.0 ps.1,
-        may_return_sound ts ps.0.1 t.0 t.1,
-        d.0,
-        next_sound ts b ih false (t.0.1 + 1) f.0 v d.1 q,
-        stop,
+      made_of (b false loosest f.0) (λ v. Arrow static r.0 ps.0.0 t.0.0 v) (λ y to. IsArrow y at to) x
+      (λ v q. (
+        refl,
+        λ k le stop. (
+          a,
+          r.1,
+          ps.0.1,
+          t.0.1,
+          s,
+          w,
+          may_is ts kinds.Ampersand (a + 1),
+          parameters_sound ts b ih r.1 ps.0 ps.1,
+          may_return_sound ts ps.0.1 t.0 t.1,
+          d.0,
+          next_sound ts b ih false (t.0.1 + 1) f.0 v d.1 q,
+          stop,
+          le,
+        ),
       )) f.2
 
   text_sound : (at : ℕ) (x : Form × ℕ) → Is ts at kinds.TextStart → text ts b (at + 1) ≡ Some x → IsAtom x.0 at x.1
@@ -151,18 +162,18 @@ module _ (ts : List Token) (b : Bool → ℕ → ℕ → Read Tree) (ih : Sound 
   static_leaf_sound at x w more h =
       gives (λ y to. IsAtom y at to) (Single leaves.Static, at + 1) x h (λ k stop. (ap leaf_of w, refl, λ least. stop more))
 
-  static_sound : (at : ℕ) (x : Form × ℕ) → Is ts at kinds.Static → static_word ts b (at + 1) ≡ Some x → IsAtom x.0 at x.1
+  static_sound : (at : ℕ) (x : Form × ℕ) → Is ts at kinds.Static → static_word ts b (at + 1) ≡ Some x → IsAlone x.0 at x.1
   unfolding static_word
   static_sound at x w h =
       elim (choose_is (after ts kinds.Function (at + 1)) _ _ _ h) [
         | inl e ↦ let a = after_is ts kinds.Function (at + 1) e.0 e.1 in
-            closure_sound true at (at + 1) x (w, refl) a.0 (subst (λ y. closure ts b true y ≡ Some x) a.1 e.2)
+            inl (closure_sound true at (at + 1) x (w, refl) a.0 (subst (λ y. closure ts b true y ≡ Some x) a.1 e.2))
         | inr e ↦ elim (choose_is (after ts kinds.Fn (at + 1)) _ _ _ e.1) [
           | inl f ↦ let a = after_is ts kinds.Fn (at + 1) f.0 f.1 in
-              arrow_sound true at (at + 1) x (w, refl) a.0 (subst (λ y. arrow ts b true y ≡ Some x) a.1 f.2)
+              inr (arrow_sound true at (at + 1) x (w, refl) a.0 (subst (λ y. arrow ts b true y ≡ Some x) a.1 f.2))
           | inr f ↦
               let more = no_function (kind_at ts (at + 1)) (kind_at ts (at + 1 + 1)) (after_none ts kinds.Fn (at + 1) (λ q. cc) f.0) (after_none ts kinds.Function (at + 1) (λ q. cc) e.0) in
-              static_leaf_sound at x w more f.1
+              inl (static_leaf_sound at x w more f.1)
         ]
       ]
 
@@ -175,18 +186,18 @@ module _ (ts : List Token) (b : Bool → ℕ → ℕ → Read Tree) (ih : Sound 
 
   -- ---- what stands alone
 
-  pub form_by_sound : (kind : TokenKind) (at : ℕ) (x : Form × ℕ) → kind_at ts at ≡ kind → form_by ts b kind at ≡ Some x → IsAtom x.0 at x.1
-  form_by_sound kinds.LeftParenthesis at x w h = brackets_sound at x h
-  form_by_sound kinds.LeftBracket at x w h = short_array_sound at x h
-  form_by_sound kinds.Array at x w h = array_sound at x w h
-  form_by_sound kinds.List at x w h = list_sound at x w h
-  form_by_sound kinds.IsSet at x w h = is_set_sound at x w h
-  form_by_sound kinds.Empty at x w h = empty_sound at x w h
-  form_by_sound kinds.Exit at x w h = exit_sound at x (ap is_exit w) h
-  form_by_sound kinds.Die at x w h = exit_sound at x (ap is_exit w) h
-  form_by_sound kinds.Match at x w h = match_sound at x w h
-  form_by_sound kinds.Function at x w h = closure_sound false at at x refl w h
-  form_by_sound kinds.Fn at x w h = arrow_sound false at at x refl w h
+  pub form_by_sound : (kind : TokenKind) (at : ℕ) (x : Form × ℕ) → kind_at ts at ≡ kind → form_by ts b kind at ≡ Some x → IsAlone x.0 at x.1
+  form_by_sound kinds.LeftParenthesis at x w h = inl (brackets_sound at x h)
+  form_by_sound kinds.LeftBracket at x w h = inl (short_array_sound at x h)
+  form_by_sound kinds.Array at x w h = inl (array_sound at x w h)
+  form_by_sound kinds.List at x w h = inl (list_sound at x w h)
+  form_by_sound kinds.IsSet at x w h = inl (is_set_sound at x w h)
+  form_by_sound kinds.Empty at x w h = inl (empty_sound at x w h)
+  form_by_sound kinds.Exit at x w h = inl (exit_sound at x (ap is_exit w) h)
+  form_by_sound kinds.Die at x w h = inl (exit_sound at x (ap is_exit w) h)
+  form_by_sound kinds.Match at x w h = inl (match_sound at x w h)
+  form_by_sound kinds.Function at x w h = inl (closure_sound false at at x refl w h)
+  form_by_sound kinds.Fn at x w h = inr (arrow_sound false at at x refl w h)
   form_by_sound kinds.Static at x w h = static_sound at x w h
-  form_by_sound kinds.TextStart at x w h = text_sound at x w h
-  form_by_sound kind at x w h = other_sound kind at x (λ q. cc) w h
+  form_by_sound kinds.TextStart at x w h = inl (text_sound at x w h)
+  form_by_sound kind at x w h = inl (other_sound kind at x (λ q. cc) w h)

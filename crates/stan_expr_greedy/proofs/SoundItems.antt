@@ -18,14 +18,6 @@ use Rattle.stan_expr_greedy.proofs.SoundTables.{no_call}
 abbrev pub Sound : List Token → (Bool → ℕ → ℕ → Read Tree) → Type 0
 Sound ts b = (p : Bool) (k at : ℕ) (r : Tree × ℕ) → 5 ≤ k → k ≤ loosest → b p k at ≡ Some r → Greedy ts p k r.0 at r.1
 
--- from the place behind a token on
-pub moved : (P : ℕ → Type 0) (at to : ℕ) → to ≡ at → P to → P at
-moved P at to e p = subst P e p
-
-has_some : (es : Items) → IsSomeItem es → has_items es ≡ true
-has_some no_item h = absurd h
-has_some (items x xs comma) h = refl
-
 module _ (ts : List Token) (b : Bool → ℕ → ℕ → Read Tree) (ih : Sound ts b) where
   pub any_sound : (p : Bool) (at : ℕ) (r : Tree × ℕ) → b p loosest at ≡ Some r → Greedy ts p loosest r.0 at r.1
   any_sound p at r h = ih p loosest at r (omega arith) (omega arith) h

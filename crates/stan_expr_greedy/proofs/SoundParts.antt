@@ -12,7 +12,8 @@ use Rattle.stan_model_grammar.specs.Expressions.{Is, TypeName, Alternatives, Typ
 use Rattle.stan_expr_rules.specs.Places.{same_kind, after}
 use Rattle.stan_expr_rules.specs.Parse.{all, type_name, alternative, alternatives, union, nullable, type_by, type_tree, some_type, may_type, begins_type, may_return, closing_within, closing, body, visibility_by, visibility}
 use Rattle.stan_expr_rules.proofs.Greedy.{Near}
-use Rattle.stan_expr_greedy.proofs.Reading.{bind_ok, some_is, gives, made_of, taken_is, none_is_not, nothing_is, choose_is, if_is, guard_ok, same_is, stands_is, after_is, Seq, many_sound}
+use Rattle.stan_expr_rules.proofs.InsideLemmas.{stands_kind}
+use Rattle.stan_expr_greedy.proofs.Reading.{bind_ok, some_is, gives, made_of, taken_is, none_is_not, nothing_is, choose_is, if_is, guard_ok, same_is, after_is, Seq, many_sound}
 
 module _ (ts : List Token) where
   -- ---- types
@@ -58,7 +59,7 @@ module _ (ts : List Token) where
   unfolding nullable
   nullable_sound at t x s k h =
       let u = bind_ok (type_name ts (at + 1)) _ x h in
-      gives (λ y to. Types ts y at to) (Nullable t u.0.0, u.0.1) x u.2 (s, stands_is ts at t s ∙ k, type_name_sound (at + 1) u.0 u.1)
+      gives (λ y to. Types ts y at to) (Nullable t u.0.0, u.0.1) x u.2 (s, stands_kind ts at t s ∙ k, type_name_sound (at + 1) u.0 u.1)
 
   type_by_sound : (at : ℕ) (o : Option Token) (x : TypeTree × ℕ) → slice_get ts at ≡ o → type_by ts o at ≡ Some x → Types ts x.0 at x.1
   type_by_sound at None x s h = absurd (nothing_is x h)

@@ -10,7 +10,8 @@ use Rattle.stan_model_grammar.specs.TreeLists.{steps}
 use Rattle.stan_expr_rules.specs.Places.{same_kind, after}
 use Rattle.stan_expr_rules.specs.Parse.{Read, Turn, all, enclosed, fenced, argument_at, called, may_be_called, computed_member, named_member, member, property, scoped_with, scoped, class_scoped, index, bracket, call, suffix_by, suffix_at, suffixes, class_suffix_by, class_suffix_at, class_suffixes, variable_class, scoped_class, computed_class, behind_class, named_class, class_reference, new, inserted, part_by, part_at, parts}
 use Rattle.stan_expr_rules.proofs.Greedy.{J, Near}
-use Rattle.stan_expr_greedy.proofs.Reading.{bind_ok, gives, turn_gives, made_of, taken_is, taken_none, none_is_not, choose_is, if_is, guard_ok, same_is, stands_is, after_is, after_none, Seq, many_sound}
+use Rattle.stan_expr_rules.proofs.InsideLemmas.{stands_kind}
+use Rattle.stan_expr_greedy.proofs.Reading.{bind_ok, gives, turn_gives, made_of, taken_is, taken_none, none_is_not, choose_is, if_is, guard_ok, same_is, after_is, after_none, Seq, many_sound}
 use Rattle.stan_expr_greedy.proofs.SoundTables.{no_scope, no_class_part, no_suffix}
 use Rattle.stan_expr_greedy.proofs.SoundItems.{Sound, enclosed_sound, arguments_sound, may_be_called_sound, called_sound}
 
@@ -71,7 +72,7 @@ module _ (ts : List Token) (b : Bool → ℕ → ℕ → Read Tree) (ih : Sound 
         | inl e ↦ let a = after_is ts kinds.Variable (at + 1) e.0 e.1 in
             let two : e.0 ≡ at + 2 = omega (arith, a.1) in
             let t = bind_ok (slice_get ts (at + 1)) _ x (taken_is _ x e.2) in
-            let v : t.0.kind ≡ kinds.Variable = sym (stands_is ts (at + 1) t.0 t.1) ∙ a.0 in
+            let v : t.0.kind ≡ kinds.Variable = sym (stands_kind ts (at + 1) t.0 t.1) ∙ a.0 in
             let s : is_scoped class_suffix t.0.kind ≡ true = ap (is_scoped class_suffix) v in
             scoped_with_sound class_suffix at t.0 x s k t.1 (subst (λ y. scoped_with ts b false t.0 y ≡ Some x) two t.2)
         | inr e ↦ absurd (none_is_not x e.1)
@@ -173,7 +174,7 @@ module _ (ts : List Token) (b : Bool → ℕ → ℕ → Read Tree) (ih : Sound 
   unfolding variable_class
   variable_class_sound at t x s k h =
       made_of (class_suffixes ts b (at + 1)) (λ ss. VariableClass t (steps ss)) (λ y to. IsClass y at to) x
-      (λ ss q. let c = class_suffixes_sound (at + 1) ss q in (s, stands_is ts at t s ∙ k, c.0, c.1)) h
+      (λ ss q. let c = class_suffixes_sound (at + 1) ss q in (s, stands_kind ts at t s ∙ k, c.0, c.1)) h
 
   scoped_class_sound : (at to : ℕ) (t : Token) (x : ClassReference × ℕ) → slice_get ts at ≡ Some t → names_class t.kind ≡ true → Is ts (at + 1) kinds.DoubleColon
       → Is ts (at + 2) kinds.Variable → to ≡ at + 3

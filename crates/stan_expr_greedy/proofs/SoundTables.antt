@@ -55,18 +55,14 @@ operator_joins kind next o h = ap (λ x. joins_operated x (joins_assigned (assig
 none_joins : (kind next : TokenKind) → binary_at kind next ≡ None → joins kind next ≡ joins_assigned (assignment_at kind next) (joins_alone kind next)
 none_joins kind next h = ap (λ x. joins_operated x (joins_assigned (assignment_at kind next) (joins_alone kind next))) h
 
-double_at_most : (next : TokenKind) → double_colon next ≤ 4
-double_at_most kinds.Variable = omega arith
-double_at_most next = omega arith
-
-double_least : (next : TokenKind) → 1 < double_colon next
-double_least kinds.Variable = omega arith
-double_least next = omega arith
+pub double_bounds : (next : TokenKind) → (2 ≤ double_colon next) × (double_colon next ≤ 4)
+double_bounds kinds.Variable = (omega arith, omega arith)
+double_bounds next = (omega arith, omega arith)
 
 alone_joins : (kind next : TokenKind) → 6 ≤ joins_assigned (assignment_at kind next) (joins_alone kind next)
     → joins_assigned (assignment_at kind next) (joins_alone kind next) ≤ 29 → kind ≡ kinds.Question
 alone_joins kinds.Question next lo hi = refl
-alone_joins kinds.DoubleColon next lo hi = let d = double_at_most next in absurd (omega arith)
+alone_joins kinds.DoubleColon next lo hi = let d = double_bounds next in absurd (omega arith)
 alone_joins kind next lo hi = absurd (omega arith)
 
 -- where no operator stands, only `?` goes on with an operand
@@ -84,14 +80,14 @@ question_stratum kind next e h =
 -- an assignment alone goes on in stratum 5
 pub no_assignment : (kind next : TokenKind) → assignment_at kind next ≡ None → joins kind next ≡ 5 → ⊥
 no_assignment kinds.Question next h e = let q = question_joins next in omega arith
-no_assignment kinds.DoubleColon next h e = let d = double_at_most next in omega arith
+no_assignment kinds.DoubleColon next h e = let d = double_bounds next in omega arith
 no_assignment kind next h e = first_of (omega arith, cc)
 
 -- what cannot be called goes on in no stratum 1
 pub no_call : (kind next : TokenKind) → (kind ≡ kinds.LeftParenthesis → ⊥) → 1 ≤ joins kind next → 1 < joins kind next
 no_call kinds.LeftParenthesis next h le = absurd (h refl)
 no_call kinds.Question next h le = let q = question_joins next in omega arith
-no_call kinds.DoubleColon next h le = double_least next
+no_call kinds.DoubleColon next h le = let d = double_bounds next in omega (arith, d.0)
 no_call kind next h le = omega arith
 
 -- only `fn` and `function` go on in stratum 0
@@ -99,7 +95,7 @@ pub no_function : (kind next : TokenKind) → (kind ≡ kinds.Fn → ⊥) → (k
 no_function kinds.Fn next h g = absurd (h refl)
 no_function kinds.Function next h g = absurd (g refl)
 no_function kinds.Question next h g = let q = question_joins next in omega arith
-no_function kinds.DoubleColon next h g = let d = double_least next in omega arith
+no_function kinds.DoubleColon next h g = let d = double_bounds next in omega arith
 no_function kind next h g = omega arith
 
 double_other : (next : TokenKind) → (next ≡ kinds.Variable → ⊥) → 3 < double_colon next

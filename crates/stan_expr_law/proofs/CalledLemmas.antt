@@ -19,7 +19,7 @@ use Rattle.stan_model_grammar.specs.Trees.{TypeTree, Nullable, Union, Tree, node
 use Rattle.stan_model_grammar.specs.Expressions.{ItemSort, argument, element, expression, parameter, captured, arm, StepSort, suffix, class_suffix, part, operation, further, takes_arguments, arrow, has_items, IsSomeStep, Is, May, Operates, Assigns, MayBeVisible, Alternatives, Types, MayBeTyped, MayReturn, MayCapture, Reads, Forms, Lists, ItemReads, Defaults, MayBeCalled, Classes, Members, Repeats, StepReads, Bodies, Spells}
 use Rattle.stan_model_grammar.specs.Sites.{Site, CallSite, BodySite, deeper, left_level, called, sites, form_sites, items_sites, item_sites, default_sites, arguments_sites, class_sites, member_sites, steps_sites, step_sites, body_sites}
 use Rattle.stan_expr_law.specs.Called.{is_name_leaf, is_name, names_no_function, IsBare, IsCalled, NoneCalled, AreSites}
-use Rattle.stan_expr_law.proofs.InsideLemmas.{body_inside, stands_kind}
+use Rattle.stan_expr_rules.proofs.InsideLemmas.{body_inside, stands_kind}
 use Rattle.stan_expr_law.proofs.Spelled.{Free}
 use Rattle.stan_expr_law.proofs.Levels.{operator_bounds}
 use Rattle.stan_expr_law.proofs.LawItems.{no_further}

@@ -14,7 +14,7 @@ use Rattle.stan_model_grammar.specs.declared.token.TokenKind.TheVariants as kind
 use Rattle.stan_model_grammar.specs.Strata.{kind_at, loosest, prefix_stratum, binary_stratum, fixity, tighter}
 use Rattle.stan_model_grammar.specs.Trees.{Tree, node, Array, New, Arrow, Post, Prefix, Assignment, Chain, Binary, Conditional, Steps, no_step, step, Operation}
 use Rattle.stan_model_grammar.specs.Expressions.{parameter, operation, Operates, Reads, Repeats, Spells, IsEnd}
-use Rattle.stan_expr_law.proofs.InsideLemmas.{reads_inside, items_go, may_goes, return_goes}
+use Rattle.stan_expr_rules.proofs.InsideLemmas.{reads_inside, items_go, may_goes, return_goes}
 use Rattle.stan_expr_rules.proofs.Greedy.{J, Near, Greedy, Picks, extend}
 use Rattle.stan_expr_law.proofs.Spelled.{Free}
 use Rattle.stan_expr_law.proofs.Levels.{Levels, no_level, level, takes_covered, takes_onward, Covered, covered_self, Going, scoped, operated, asked, mark, onward, side, left_side, other_side, other_onward, operator_bounds, double_colon_bounds, going_rises, assignment_joins, end_joins, goes_mark, goes_rises, Leads, Led, led_more, leads_within, led_within, leads_rise, led_up, led_out, led_over, leads_unassigned, by_suffixes, by_operations, by_operator, by_question, Picked, Law}

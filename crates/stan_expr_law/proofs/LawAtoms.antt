@@ -8,7 +8,7 @@ use Rattle.stan_model_grammar.specs.declared.token.TokenKind.TheVariants as kind
 use Rattle.stan_model_grammar.specs.Strata.{loosest}
 use Rattle.stan_model_grammar.specs.Trees.{Tree, node, Single, Brackets, Array, IsSet, Empty, Exit, New, Match, Closure, Arrow, Text, Post, Prefix, Assignment, Chain, Binary, Conditional, no_arguments, arguments, Steps, no_step, step, Step, Body, Held, Read}
 use Rattle.stan_model_grammar.specs.Expressions.{argument, element, expression, parameter, arm, suffix, is_place, ends_in_place, is_assignable, MayBeCalled, Reads, Repeats, Bodies, IsEnd}
-use Rattle.stan_expr_law.proofs.InsideLemmas.{reads_inside, items_go, may_goes, captures_go, return_goes, body_inside}
+use Rattle.stan_expr_rules.proofs.InsideLemmas.{reads_inside, items_go, may_goes, captures_go, return_goes, body_inside}
 use Rattle.stan_expr_rules.proofs.Greedy.{J, Near, Greedy, lift, extend}
 use Rattle.stan_expr_law.proofs.Spelled.{Free}
 use Rattle.stan_expr_law.proofs.Levels.{Levels, no_level, level, Going, ends, places, operator_bounds, end_joins, Leads, leads_rise, leads_past, leads_out, leads_some, leads_unassigned, by_suffixes, Picked, Law}

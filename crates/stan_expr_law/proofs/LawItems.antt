@@ -7,7 +7,7 @@ use Rattle.stan_model_grammar.specs.declared.token.TokenKind.TheVariants as kind
 use Rattle.stan_model_grammar.specs.Strata.{loosest, is_end}
 use Rattle.stan_model_grammar.specs.Trees.{Tree, node, Array, Items, no_item, items, Item, Positional, Spread, Named, Element, KeyedElement, Parameter, Captured, Arm, DefaultArm, Default, no_default, default, MemberName, NamedMember, ComputedMember, Steps, no_step, step, Step, Push, Index, Property, Scoped, Call, Increment, Decrement, Operation, Part, Inserted, Further, is_pattern, holds_pattern, is_pattern_item, further_pattern}
 use Rattle.stan_model_grammar.specs.Expressions.{ItemSort, argument, element, expression, parameter, captured, arm, part, further, has_items, IsSomeItem, Is, May, MayCapture, Reads, Lists, ItemReads, Defaults, Members, Repeats, StepReads, IsEnd}
-use Rattle.stan_expr_law.proofs.InsideLemmas.{reads_inside, item_inside, items_go, steps_go, may_goes, visibility_goes, may_type_goes}
+use Rattle.stan_expr_rules.proofs.InsideLemmas.{reads_inside, item_inside, items_go, steps_go, may_goes, visibility_goes, may_type_goes}
 use Rattle.stan_expr_rules.proofs.Greedy.{Near, Greedy, plain, plain_of}
 use Rattle.stan_expr_law.proofs.Spelled.{Free}
 use Rattle.stan_expr_law.proofs.Levels.{no_level, led_over, end_joins, Law}

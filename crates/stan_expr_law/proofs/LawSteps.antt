@@ -6,7 +6,7 @@ use Rattle.stan_model_grammar.specs.declared.token.TokenKind.TheVariants as kind
 use Rattle.stan_model_grammar.specs.Strata.{kind_at, double_colon}
 use Rattle.stan_model_grammar.specs.Trees.{Arguments, no_arguments, arguments, ClassReference, NamedClass, VariableClass, ScopedClass, ComputedClass, Steps, no_step, step, Step, Push, Index, Property, Scoped, Call, Increment, Decrement, Operation, Part, Inserted, Further}
 use Rattle.stan_model_grammar.specs.Expressions.{argument, suffix, class_suffix, is_variable, is_scoped, is_without, Stands, MayBeCalled, Classes, Repeats, StepReads}
-use Rattle.stan_expr_law.proofs.InsideLemmas.{steps_go, step_inside, items_go, stands_kind, class_inside}
+use Rattle.stan_expr_rules.proofs.InsideLemmas.{steps_go, step_inside, items_go, stands_kind, class_inside}
 use Rattle.stan_expr_rules.proofs.Greedy.{J, Near}
 use Rattle.stan_expr_law.proofs.Spelled.{Free}
 use Rattle.stan_expr_law.proofs.Levels.{Levels, level, takes_covered, Going, pushed, indexed, property, scoped, called, increased, decreased, operated, asked, mark, stratum, onward, ends, places, and_false, arrow_joins, operator_bounds, double_colon_bounds, going_rises, goes_mark, goes_rises, Leads, Led, leads_more, leads_rise, Law}

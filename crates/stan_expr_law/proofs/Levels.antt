@@ -12,7 +12,7 @@ use Rattle.stan_model_grammar.specs.declared.token.TokenKind.TheVariants as kind
 use Rattle.stan_model_grammar.specs.Strata.{kind_at, leaf_of, prefix_of, binary_at, binary_stratum, fixity, tighter, right_side, assignment_at, joins, joins_operated, joins_assigned, joins_alone, double_colon, loosest, is_exit, names_scoped}
 use Rattle.stan_model_grammar.specs.Trees.{Tree, node, Single, Brackets, Array, IsSet, Empty, Exit, New, Match, Closure, Arrow, Text, Post, Prefix, Assignment, Chain, Binary, Conditional, Items, no_arguments, arguments, MemberName, Steps, no_step, step, Push, Index, Property, Scoped, Call, Increment, Decrement, Operation, Part, Inserted, Further}
 use Rattle.stan_model_grammar.specs.Expressions.{argument, suffix, operation, is_variable, is_place, arrow, Is, Stands, Between, Operates, May, Reads, Lists, Members, Repeats, IsEnd}
-use Rattle.stan_expr_law.proofs.InsideLemmas.{reads_inside, items_go, member_inside, stands_kind}
+use Rattle.stan_expr_rules.proofs.InsideLemmas.{reads_inside, items_go, member_inside, stands_kind}
 use Rattle.stan_expr_law.proofs.TreeLemmas.{ends_join_none}
 use Rattle.stan_expr_rules.proofs.Greedy.{J, Greedy}
 use Rattle.stan_expr_law.proofs.Spelled.{Free}

@@ -1,5 +1,4 @@
 pub mod CalledLemmas
-pub mod InsideLemmas
 pub mod Law
 pub mod LawAtoms
 pub mod LawItems

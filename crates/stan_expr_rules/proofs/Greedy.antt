@@ -1,10 +1,15 @@
 -- The greedy tree: no part is followed by a token that it could go on with.
-use Rattle.std.proofs.Common.{◌≡◌, ℕ, ◌+◌, ◌-◌, ◌≤◌, ◌<◌, Bool, true, false, List, arith}
+use Rattle.std.proofs.Common.{◌≡◌, ℕ, ◌+◌, ◌-◌, ◌≤◌, ◌<◌, Bool, true, false, List, refl, arith}
+use Rattle.stan_model_grammar.specs.declared.operators.Leaf.{Leaf}
+use Rattle.stan_model_grammar.specs.declared.operators.Leaf.TheVariants as leaves
+use Rattle.stan_model_grammar.specs.declared.operators.Production.{Production}
+use Rattle.stan_model_grammar.specs.declared.operators.Production.TheVariants as productions
 use Rattle.stan_model_grammar.specs.declared.operators.ArrayStyle.TheVariants as styles
 use Rattle.stan_model_grammar.specs.declared.token.Token.{Token}
 use Rattle.stan_model_grammar.specs.Strata.{loosest, joins, kind_at, leaf_low, binary_stratum}
-use Rattle.stan_model_grammar.specs.Trees.{Tree, node, Form, Single, Brackets, Array, IsSet, Empty, Exit, New, Match, Closure, Arrow, Text, Post, Prefix, Assignment, Chain, Binary, Conditional, is_pattern, holds_pattern}
-use Rattle.stan_model_grammar.specs.Expressions.{Reads, Forms}
+use Rattle.stan_model_grammar.specs.Trees.{Tree, node, Form, Single, Brackets, Array, IsSet, Empty, Exit, New, Match, Closure, Arrow, Text, Post, Prefix, Assignment, Chain, Binary, Conditional, leaf_production, is_pattern, holds_pattern}
+use Rattle.stan_model_grammar.specs.Expressions.{Stands, Reads, Forms}
+use Rattle.stan_expr_rules.specs.Parse.{first_of, stands_arrow, is_arrow}
 
 abbrev pub J : List Token → ℕ → ℕ
 J ts at = joins (kind_at ts at) (kind_at ts (at + 1))
@@ -18,6 +23,30 @@ Greedy ts = Reads ts (Near ts)
 -- the picked tree of the tokens from one place to another
 abbrev pub Picks : List Token → Tree → ℕ → ℕ → Type 0
 Picks ts = Greedy ts false loosest
+
+pub first_stands : (ts : List Token) (p : Bool) (k : ℕ) (t : Tree) (from to : ℕ) → Greedy ts p k t from to → Stands ts from (first_of t)
+first_stands ts p k (node t f) from to h = h.0
+
+-- ---- productions
+
+-- what holds of no production of one token
+pub leaf_is_none : (test : Production → Bool) → test productions.Literal ≡ false → test productions.Variable ≡ false → test productions.Name ≡ false → test productions.Static ≡ false
+    → (leaf : Leaf) → test (leaf_production leaf) ≡ false
+leaf_is_none test a b c d leaves.Variable = b
+leaf_is_none test a b c d leaves.Name = c
+leaf_is_none test a b c d leaves.Static = d
+leaf_is_none test a b c d leaf = a
+
+-- what something is appended to is no arrow function
+no_arrow_form : (ts : List Token) (p : Bool) (t : Token) (f : Form) (from to : ℕ) → Forms ts (Near ts) p 0 f from to → is_arrow (node t f) ≡ false
+no_arrow_form ts p t (Single leaf) from to h = leaf_is_none stands_arrow refl refl refl refl leaf
+no_arrow_form ts p t (Arrow static reference ps type e) from to h = absurd (omega (arith, h.12))
+no_arrow_form ts p t f from to h = refl
+
+pub no_arrow : (ts : List Token) (p : Bool) (t : Tree) (from to : ℕ) → Greedy ts p 0 t from to → is_arrow t ≡ false
+no_arrow ts p (node t f) from to h = no_arrow_form ts p t f from to h.1
+
+-- ---- strata
 
 -- a greedy tree of one stratum is one of each looser stratum, if nothing goes on with it there
 lift_form : (ts : List Token) (p : Bool) (j k : ℕ) (f : Form) (from to : ℕ) → j ≤ k → k < J ts to → Forms ts (Near ts) p j f from to → Forms ts (Near ts) p k f from to

@@ -17,7 +17,7 @@ use Rattle.stan_model_grammar.specs.declared.token.TokenKind.TheVariants as kind
 use Rattle.stan_model_grammar.specs.Strata.{kind_of, kind_at, leaf_of, leaf_low, prefix_of, prefix_stratum, binary_at, binary_size, binary_stratum, fixity, tighter, right_side, assignment_at, assignment_size, loosest, joins, is_end, is_exit, visibility_of}
 use Rattle.stan_model_grammar.specs.Trees.{TypeTree, Nullable, Union, Tree, node, Form, Single, Brackets, Array, IsSet, Empty, Exit, New, Match, Closure, Arrow, Text, Post, Prefix, Assignment, Chain, Binary, Conditional, Items, no_item, items, Item, Positional, Spread, Named, Element, KeyedElement, Parameter, Captured, Arm, DefaultArm, Default, no_default, default, Arguments, no_arguments, arguments, ClassReference, NamedClass, VariableClass, ScopedClass, ComputedClass, MemberName, NamedMember, ComputedMember, Steps, no_step, step, Step, Push, Index, Property, Scoped, Call, Increment, Decrement, Operation, Part, Inserted, Further, Body, Held, Read}
 use Rattle.stan_model_grammar.specs.Expressions.{ItemSort, argument, element, expression, parameter, captured, arm, StepSort, suffix, class_suffix, part, operation, further, has_items, takes_arguments, braces_behind, braces_open, IsMatched, Is, Stands, May, Between, Operates, Assigns, MayBeVisible, TypeName, Alternatives, Types, MayBeTyped, MayReturn, MayCapture, Reads, Forms, Lists, ItemReads, Defaults, MayBeCalled, Classes, Members, Repeats, StepReads, Bodies, IsEnd, arrow}
-use Rattle.stan_expr_law.proofs.InsideLemmas.{may_goes, alternatives_go, may_type_goes, type_inside, return_goes, reads_inside, items_go, captures_go, item_inside, default_goes, arguments_go, member_inside, steps_go, body_inside}
+use Rattle.stan_expr_rules.proofs.InsideLemmas.{may_goes, alternatives_go, may_type_goes, type_inside, return_goes, reads_inside, items_go, captures_go, item_inside, default_goes, arguments_go, member_inside, steps_go, body_inside}
 use Rattle.stan_expr_rules.proofs.Greedy.{J, Near, Greedy}
 use Rattle.stan_expr_law.proofs.Spelled.{Free}
 use Rattle.stan_expr_greedy.proofs.Complete.{one_is_picked}
@@ -93,12 +93,12 @@ module _ (ts us : List Token) (S T : ℕ → ℕ → ℕ → Type 0) (m : ℕ)
       let g = rises (at + 1 + 1) w.0 w.2 in
       (is at kinds.Use (omega (arith, g, w.4)) h.0, between kinds.LeftParenthesis kinds.RightParenthesis A B (at + 1) to le (λ b r. rises (at + 1 + 1) b r) (λ b l r. cut (at + 1 + 1) b l r) h.1)
 
-  operates : (o : BinaryOperator) (at b : ℕ) → b < m → Operates ts o at b → Operates us o at b
-  operates o at b lt h =
+  operates : (sign : Token) (o : BinaryOperator) (at b : ℕ) → b < m → Operates ts sign o at b → Operates us sign o at b
+  operates sign o at b lt h =
       let some = binary_some o in
       let x = kind at (omega (arith, h.1, some)) in
       let y = kind (at + 1) (omega (arith, h.1, some)) in
-      (ap (λ z. binary_at z (kind_at us (at + 1))) x ∙ ap (λ z. binary_at (kind_at ts at) z) y ∙ h.0, h.1)
+      (ap (λ z. binary_at z (kind_at us (at + 1))) x ∙ ap (λ z. binary_at (kind_at ts at) z) y ∙ h.0, h.1, stand at sign (omega (arith, h.1, some)) h.2)
 
   assigns : (o : AssignmentOperator) (at b : ℕ) → b < m → Assigns ts o at b → Assigns us o at b
   assigns o at b lt h =
@@ -230,7 +230,8 @@ module _ (ts us : List Token) (S T : ℕ → ℕ → ℕ → Type 0) (m : ℕ)
           may_return type h.2 h.3 (omega (arith, i)) h.8,
           is h.3 kinds.DoubleArrow (omega (arith, i)) h.9,
           reads_cut e false loosest (h.3 + 1) to le h.10,
-          stop_one k to le h.11,
+          stop_far 5 k to (omega arith) le h.11,
+          h.12,
         )
     form_cut (Text parts) p k at to le lt h =
         (between kinds.TextStart kinds.TextEnd (Repeats ts S part parts) (Repeats us T part parts) at to le (steps_rise parts part (at + 1)) (λ b l r. steps_cut parts part (at + 1) b l r) h.0, stop_one k to le h.1)
@@ -249,7 +250,7 @@ module _ (ts us : List Token) (S T : ℕ → ℕ → ℕ → Type 0) (m : ℕ)
     form_cut (Binary d sign o e) p k at to le lt h =
         let i = reads_inside ts S e false (right_side (fixity o) (binary_stratum o)) h.1 to h.6 in
         let low = stratum_low o in
-        (h.0, h.1, h.2, h.3, reads_cut d false (binary_stratum o - 1) at h.0 (omega (arith, i.0, h.5.1)) h.4, operates o h.0 h.1 (omega (arith, i.0)) h.5, reads_cut e false (right_side (fixity o) (binary_stratum o)) h.1 to le h.6, stop_far (binary_stratum o + 1) k to (omega (arith, low)) le h.7)
+        (h.0, h.1, h.2, h.3, reads_cut d false (binary_stratum o - 1) at h.0 (omega (arith, i.0, h.5.1)) h.4, operates sign o h.0 h.1 (omega (arith, i.0)) h.5, reads_cut e false (right_side (fixity o) (binary_stratum o)) h.1 to le h.6, stop_far (binary_stratum o + 1) k to (omega (arith, low)) le h.7)
     form_cut (Conditional c d e) p k at to le lt h =
         let x = tree_rises d (h.0 + 1) h.1 h.5 in
         let i = reads_inside ts S e false 21 (h.1 + 1) to h.7 in (
@@ -360,7 +361,7 @@ module _ (ts us : List Token) (S T : ℕ → ℕ → ℕ → Type 0) (m : ℕ)
     step_cut Decrement sort at to le h = (h.0, is at kinds.Decrement (omega (arith, h.2)) h.1, h.2)
     step_cut (Operation sign o e) sort at to le h =
         let i = reads_inside ts S e false (tighter (binary_stratum o)) h.0 to h.3 in
-        (h.0, h.1, operates o at h.0 (omega (arith, i.0)) h.2, reads_cut e false (tighter (binary_stratum o)) h.0 to le h.3)
+        (h.0, h.1, operates sign o at h.0 (omega (arith, i.0)) h.2, reads_cut e false (tighter (binary_stratum o)) h.0 to le h.3)
     step_cut (Part t) sort at to le h = (h.0, stand at t (omega (arith, h.3)) h.1, h.2, h.3)
     step_cut (Inserted e) sort at to le h = (h.0, between kinds.InsertionStart kinds.InsertionEnd (In e) (Out e) at to le (tree_rises e (at + 1)) (λ b l r. reads_cut e false loosest (at + 1) b l r) h.1)
     step_cut (Further x) (further sort) at to le h =

@@ -10,7 +10,7 @@ use Rattle.stan_model_grammar.specs.Strata.{kind_at, leaf_of, leaf_low, joins, n
 use Rattle.stan_model_grammar.specs.Trees.{TypeTree, Tree, node, Form, Single, Brackets, Array, IsSet, Empty, Exit, New, Match, Closure, Arrow, Text, Post, Prefix, Assignment, Chain, Binary, Conditional, Items, no_item, items, Arguments, ClassReference, NamedClass, VariableClass, ScopedClass, ComputedClass, Steps, no_step, step, Step, Body, Held, Read}
 use Rattle.stan_model_grammar.specs.Expressions.{ItemSort, element, expression, parameter, captured, arm, suffix, class_suffix, part, has_items, Is, Stands, May, Between, MayReturn, MayCapture, Reads, Forms, Lists, MayBeCalled, Classes, Repeats, StepReads, Bodies}
 use Rattle.stan_model_grammar.specs.Takes.{may_size, return_size, size, captures_size, steps_size, none, takes, form_takes, items_take, arguments_take, class_takes, steps_take, More}
-use Rattle.stan_expr_law.proofs.InsideLemmas.{stands_kind, reads_inside, items_go, captures_go, steps_go, may_goes, return_goes, body_inside, class_inside, arguments_go}
+use Rattle.stan_expr_rules.proofs.InsideLemmas.{stands_kind, reads_inside, items_go, captures_go, steps_go, may_goes, return_goes, body_inside, class_inside, arguments_go}
 use Rattle.stan_expr_law.proofs.SizeLemmas.{captures_are_size, steps_are_size}
 use Rattle.stan_expr_rules.proofs.Greedy.{J, Greedy}
 use Rattle.stan_expr_law.proofs.Spelled.{Free}
@@ -35,7 +35,6 @@ form_mark (Empty e) = 7
 form_mark (Exit es) = 8
 form_mark (Match e arms) = 9
 form_mark (Closure s r ps cs type body) = 10
-form_mark (Arrow s r ps type e) = 11
 form_mark (Text parts) = 12
 form_mark _ = 0
 
@@ -103,6 +102,13 @@ exit_leads kinds.Exit next h = refl
 exit_leads kinds.Die next h = refl
 exit_leads k next h = absurd cc
 
+-- no production that stands alone begins as an arrow function does
+no_mark : (f : Form) → form_mark f ≡ 11 → ⊥
+no_mark (Array styles.Brackets es) e = omega arith
+no_mark (Array styles.Array es) e = omega arith
+no_mark (Array styles.List es) e = omega arith
+no_mark f e = omega arith
+
 low_small : (l : Leaf) → leaf_low l ≤ 1
 low_small leaves.Static = omega arith
 low_small _ = omega arith
@@ -133,7 +139,7 @@ module _ (ts : List Token) where
     form_leads (Exit es) at to h = inl (sym (exit_leads (kind_at ts at) (kind_at ts (at + 1)) h.0))
     form_leads (Match e arms) at to h = inl (leads_at at kinds.Match 9 h.1 (λ z. refl))
     form_leads (Closure s r ps cs type body) at to h = inl (leads_second s at h.0 kinds.Function 10 h.5 h.6 refl (λ z. refl))
-    form_leads (Arrow s r ps type e) at to h = inl (leads_second s at h.0 kinds.Fn 11 h.4 h.5 refl (λ z. refl))
+    form_leads (Arrow s r ps type e) at to h = absurd (omega (arith, h.12))
     form_leads (Text parts) at to h = inl (leads_at at kinds.TextStart 12 h.0.1 (λ z. refl))
     form_leads (New class es) at to h = absurd (omega (arith, h.1))
     form_leads (Post e ss) at to h = absurd (omega (arith, h.1))
@@ -146,8 +152,6 @@ module _ (ts : List Token) where
     static_takes : (f : Form) (at to : ℕ) → Forms ts S true 0 f at to → Is ts at kinds.Static → 10 ≤ form_mark f → form_mark f ≤ 11 → (xs : List ℕ) × (form_takes 0 f ≡ 1 ∷ xs)
     static_takes (Closure true r ps cs type body) at to h e lo hi = (may_size r ∷ (items_take ps ++ (captures_size cs ∷ (items_take cs ++ (return_size type ∷ none 0 0)))), refl)
     static_takes (Closure false r ps cs type body) at to h e lo hi = let P : ℕ → Type 0 = λ z. Is ts z kinds.Static in absurd (cc (subst P h.5 e, h.6))
-    static_takes (Arrow true r ps type x) at to h e lo hi = (may_size r ∷ (items_take ps ++ (return_size type ∷ size x ∷ (takes loosest x ++ none 0 0))), refl)
-    static_takes (Arrow false r ps type x) at to h e lo hi = let P : ℕ → Type 0 = λ z. Is ts z kinds.Static in absurd (cc (subst P h.4 e, h.5))
     static_takes (Array styles.Brackets es) at to h e lo hi = absurd (omega (arith, lo))
     static_takes (Array styles.Array es) at to h e lo hi = absurd (omega (arith, lo))
     static_takes (Array styles.List es) at to h e lo hi = absurd (omega (arith, lo))
@@ -167,23 +171,52 @@ module _ (ts : List Token) where
       | inr c ↦ cc (c.2.0, e)
     ]
 
+    -- an arrow function, which begins with `static` or with `fn`
+    arrow_leads : (s r : Bool) (ps : Items) (type : Option TypeTree) (e : Tree) (at to : ℕ) → Forms ts S true 4 (Arrow s r ps type e) at to → Leads at ≡ 11
+    arrow_leads s r ps type e at to h = sym (leads_second s at h.0 kinds.Fn 11 h.4 h.5 refl (λ z. refl))
+
+    static_arrow : (s r : Bool) (ps : Items) (type : Option TypeTree) (e : Tree) (at to : ℕ) → Forms ts S true 4 (Arrow s r ps type e) at to → Is ts at kinds.Static
+        → (xs : List ℕ) × (form_takes 4 (Arrow s r ps type e) ≡ 1 ∷ xs)
+    static_arrow true r ps type e at to h k = (may_size r ∷ (items_take ps ++ (return_size type ∷ size e ∷ (takes loosest e ++ none 4 4))), refl)
+    static_arrow false r ps type e at to h k = let P : ℕ → Type 0 = λ z. Is ts z kinds.Static in absurd (cc (subst P h.4 k, h.5))
+
+    -- where an arrow function stands, `static` alone stands alone
+    arrow_alone : (e : Tree) (at to : ℕ) → Reads ts S true 0 e at to → Leads at ≡ 11
+        → (l : Leaf) × (takes 0 e ≡ []) × Cut (kind_at ts at) (kind_at ts (at + 1)) l × (to ≡ at + 1) × S (leaf_low l) 0 to
+    arrow_alone (node t f) at to h e = elim (form_leads f at to h.1) [
+      | inl q ↦ absurd (no_mark f (q ∙ e))
+      | inr c ↦ (c.0, ap (form_takes 0) c.1, c.2, c.3, c.4)
+    ]
+
+    new_leads : (c : ClassReference) (es : Arguments) (at to : ℕ) → Forms ts S true 4 (New c es) at to → Leads at ≡ 11 → ⊥
+    new_leads c es at to h e = let q = leads_at at kinds.New 1 h.2 (λ z. refl) in omega arith
+
+    abbrev IsNew : Form → ℕ → ℕ → Type 0
+    IsNew f at to = (c : ClassReference) × (es : Arguments) × (f ≡ New c es) × Forms ts S true 4 (New c es) at to
+
+    abbrev IsArrow : Form → ℕ → ℕ → Type 0
+    IsArrow f at to = (s r : Bool) × (ps : Items) × (type : Option TypeTree) × (e : Tree) × (f ≡ Arrow s r ps type e) × Forms ts S true 4 (Arrow s r ps type e) at to
+
     module _ (weak : (low j k i : ℕ) → j ≤ k → S low k i → S low j i) (drop : (low k i : ℕ) → low ≤ 1 → S low k i → S 1 k i) where
-      -- an operand without operator: a `new`, or what stands alone with what is appended to it
-      simple_of : (t : Token) (f : Form) (at to : ℕ) → Reads ts S true 4 (node t f) at to → ((c : ClassReference) × (es : Arguments) × (f ≡ New c es) × Forms ts S true 4 (New c es) at to) ⊎ Simple ts S weak (node t f) at to
+      -- an operand without operator: a `new`, an arrow function, or what stands alone with what is appended to it
+      abbrev Operand : Token → Form → ℕ → ℕ → Type 0
+      Operand t f at to = IsNew f at to ⊎ (IsArrow f at to ⊎ Simple ts S weak (node t f) at to)
+
+      simple_of : (t : Token) (f : Form) (at to : ℕ) → Reads ts S true 4 (node t f) at to → Operand t f at to
       simple_of t (New c es) at to h = inl (c, es, refl, h.1)
-      simple_of t (Post e ss) at to h = inr (simple_post ts S weak t e ss at to h)
-      simple_of t (Single leaf) at to h = inr (simple_atom ts S weak t (Single leaf) at to (omega arith) (drop (leaf_low leaf) 4 to (low_small leaf) h.1.2) h)
-      simple_of t (Brackets e) at to h = inr (simple_atom ts S weak t (Brackets e) at to (omega arith) h.1.1 h)
-      simple_of t (Array styles.Brackets es) at to h = inr (simple_atom ts S weak t (Array styles.Brackets es) at to (omega arith) h.1.2 h)
-      simple_of t (Array styles.Array es) at to h = inr (simple_atom ts S weak t (Array styles.Array es) at to (omega arith) h.1.3 h)
-      simple_of t (Array styles.List es) at to h = inr (simple_atom ts S weak t (Array styles.List es) at to (omega arith) h.1.3 h)
-      simple_of t (IsSet es) at to h = inr (simple_atom ts S weak t (IsSet es) at to (omega arith) h.1.3 h)
-      simple_of t (Empty e) at to h = inr (simple_atom ts S weak t (Empty e) at to (omega arith) h.1.2 h)
-      simple_of t (Exit es) at to h = inr (simple_atom ts S weak t (Exit es) at to (omega arith) h.1.2 h)
-      simple_of t (Match e arms) at to h = inr (simple_atom ts S weak t (Match e arms) at to (omega arith) h.1.4 h)
-      simple_of t (Closure s r ps cs type body) at to h = inr (simple_atom ts S weak t (Closure s r ps cs type body) at to (omega arith) h.1.12 h)
-      simple_of t (Arrow s r ps type e) at to h = inr (simple_atom ts S weak t (Arrow s r ps type e) at to (omega arith) h.1.11 h)
-      simple_of t (Text parts) at to h = inr (simple_atom ts S weak t (Text parts) at to (omega arith) h.1.1 h)
+      simple_of t (Post e ss) at to h = inr (inr (simple_post ts S weak t e ss at to h))
+      simple_of t (Single leaf) at to h = inr (inr (simple_atom ts S weak t (Single leaf) at to (omega arith) (drop (leaf_low leaf) 4 to (low_small leaf) h.1.2) h))
+      simple_of t (Brackets e) at to h = inr (inr (simple_atom ts S weak t (Brackets e) at to (omega arith) h.1.1 h))
+      simple_of t (Array styles.Brackets es) at to h = inr (inr (simple_atom ts S weak t (Array styles.Brackets es) at to (omega arith) h.1.2 h))
+      simple_of t (Array styles.Array es) at to h = inr (inr (simple_atom ts S weak t (Array styles.Array es) at to (omega arith) h.1.3 h))
+      simple_of t (Array styles.List es) at to h = inr (inr (simple_atom ts S weak t (Array styles.List es) at to (omega arith) h.1.3 h))
+      simple_of t (IsSet es) at to h = inr (inr (simple_atom ts S weak t (IsSet es) at to (omega arith) h.1.3 h))
+      simple_of t (Empty e) at to h = inr (inr (simple_atom ts S weak t (Empty e) at to (omega arith) h.1.2 h))
+      simple_of t (Exit es) at to h = inr (inr (simple_atom ts S weak t (Exit es) at to (omega arith) h.1.2 h))
+      simple_of t (Match e arms) at to h = inr (inr (simple_atom ts S weak t (Match e arms) at to (omega arith) h.1.4 h))
+      simple_of t (Closure s r ps cs type body) at to h = inr (inr (simple_atom ts S weak t (Closure s r ps cs type body) at to (omega arith) h.1.12 h))
+      simple_of t (Arrow s r ps type e) at to h = inr (inl (s, r, ps, type, e, refl, h.1))
+      simple_of t (Text parts) at to h = inr (inr (simple_atom ts S weak t (Text parts) at to (omega arith) h.1.1 h))
       simple_of t (Prefix o e) at to h = absurd (omega (arith, h.1.0))
       simple_of t (Assignment target o e) at to h = absurd (omega (arith, h.1.2))
       simple_of t (Chain j e ss) at to h = absurd (omega (arith, h.1.1, h.1.2))
@@ -229,14 +262,9 @@ module _ (ts : List Token) where
       let Q : List ℕ → Type 0 = λ z. More ((1 ∷ xs) ++ l) (z ++ r) in
       subst P (sym e) (subst Q (sym f) (static_alone xs l rs pad at to j h))
 
-  atom_tree : (t u : Token) (f g : Form) (at to end : ℕ) → t ≡ u → Best f g to end (form_takes 0 f) (form_takes 0 g) → Best (node t f) (node u g) to end (takes 0 (node t f)) (takes 0 (node u g))
-  atom_tree t u f g at to end e (inl same) = inl (ap₂ node e same.0, same.1)
-  atom_tree t u f g at to end e (inr more) = inr more
-
-  new_by : (t u : Token) (to end : ℕ) (x y : ClassReference) (es ds : Arguments) → t ≡ u → Best (New x es) (New y ds) to end (form_takes 4 (New x es)) (form_takes 4 (New y ds))
-      → Best (node t (New x es)) (node u (New y ds)) to end (takes 4 (node t (New x es))) (takes 4 (node u (New y ds)))
-  new_by t u to end x y es ds e (inl same) = inl (ap₂ node e same.0, same.1)
-  new_by t u to end x y es ds e (inr more) = inr more
+  tree_of_form : (k : ℕ) (t u : Token) (f g : Form) (to end : ℕ) → t ≡ u → Best f g to end (form_takes k f) (form_takes k g) → Best (node t f) (node u g) to end (takes k (node t f)) (takes k (node u g))
+  tree_of_form k t u f g to end e (inl same) = inl (ap₂ node e same.0, same.1)
+  tree_of_form k t u f g to end e (inr more) = inr more
 
   scoped_most : (t v u w : Token) (ss rs : Steps) (to end : ℕ) → t ≡ v → u ≡ w → Best ss rs to end (steps_size ss ∷ steps_take ss) (steps_size rs ∷ steps_take rs)
       → Best (ScopedClass t u ss) (ScopedClass v w rs) to end ((steps_size ss + 2) ∷ steps_size ss ∷ steps_take ss) ((steps_size rs + 2) ∷ steps_size rs ∷ steps_take rs)
@@ -244,12 +272,11 @@ module _ (ts : List Token) where
   scoped_most t v u w ss rs to end p q (inr (inl lt)) = inr (inl (omega arith))
   scoped_most t v u w ss rs to end p q (inr (inr more)) = inr (inr (omega (arith, more.0), inr more))
 
-  new_tree : (t u : Token) (f g : Form) (at to end : ℕ) (x y : ClassReference) (es ds : Arguments) → f ≡ New x es → g ≡ New y ds → t ≡ u → Best (New x es) (New y ds) to end (form_takes 4 (New x es)) (form_takes 4 (New y ds))
-      → Best (node t f) (node u g) to end (takes 4 (node t f)) (takes 4 (node u g))
-  new_tree t u f g at to end x y es ds p q e h =
+  form_tree : (t u : Token) (f g x y : Form) (to end : ℕ) → f ≡ x → g ≡ y → t ≡ u → Best x y to end (form_takes 4 x) (form_takes 4 y) → Best (node t f) (node u g) to end (takes 4 (node t f)) (takes 4 (node u g))
+  form_tree t u f g x y to end p q e h =
       let P : Form → Type 0 = λ z. Best (node t z) (node u g) to end (takes 4 (node t z)) (takes 4 (node u g)) in
-      let Q : Form → Type 0 = λ z. Best (node t (New x es)) (node u z) to end (takes 4 (node t (New x es))) (takes 4 (node u z)) in
-      subst P (sym p) (subst Q (sym q) (new_by t u to end x y es ds e h))
+      let Q : Form → Type 0 = λ z. Best (node t x) (node u z) to end (takes 4 (node t x)) (takes 4 (node u z)) in
+      subst P (sym p) (subst Q (sym q) (tree_of_form 4 t u x y to end e h))
 
   brace_of : (S : ℕ → ℕ → ℕ → Type 0) (b : Body) (at to : ℕ) → Bodies ts S b at to → Is ts at kinds.LeftBrace
   brace_of S (Held first last) at to h = h.0
@@ -314,8 +341,8 @@ module _ (ts : List Token) where
         ]
 
     arrow_most : (s r : Bool) (ps : Items) (type : Option TypeTree) (x : Tree) (u v : Bool) (qs : Items) (kind : Option TypeTree) (y : Tree) (at to end : ℕ)
-        → Forms ts (N ts) true 0 (Arrow s r ps type x) at to → Forms ts Free true 0 (Arrow u v qs kind y) at end → to ≤ suc n + at
-        → Best (Arrow s r ps type x) (Arrow u v qs kind y) to end (form_takes 0 (Arrow s r ps type x)) (form_takes 0 (Arrow u v qs kind y))
+        → Forms ts (N ts) true 4 (Arrow s r ps type x) at to → Forms ts Free true 4 (Arrow u v qs kind y) at end → to ≤ suc n + at
+        → Best (Arrow s r ps type x) (Arrow u v qs kind y) to end (form_takes 4 (Arrow s r ps type x)) (form_takes 4 (Arrow u v qs kind y))
     arrow_most s r ps type x u v qs kind y at to end h i le =
         let a = may_same ts s u kinds.Static at h.0 i.0 h.4 i.4 (λ k. cc (k, h.5)) (λ k. cc (k, i.5)) in
         let P : ℕ → Type 0 = λ z. May ts v kinds.Ampersand (z + 1) i.1 in
@@ -331,12 +358,12 @@ module _ (ts : List Token) where
         let T : ℕ → Type 0 = λ z. MayReturn ts kind z i.3 in
         let e = return_same ts type kind h.2 h.3 i.3 h.8 (subst T (sym c) i.8) (λ k. cc (k, h.9)) (λ k. cc (k, i.9)) (λ k. cc (k, h.9)) (λ k. cc (k, i.9)) in
         let U : ℕ → Type 0 = λ z. Reads ts Free false loosest y (z + 1) end in
-        let us = return_size type ∷ size x ∷ (takes loosest x ++ none 0 0) in
-        let vs = return_size kind ∷ size y ∷ (takes loosest y ++ none 0 0) in
+        let us = return_size type ∷ size x ∷ (takes loosest x ++ none 4 4) in
+        let vs = return_size kind ∷ size y ∷ (takes loosest y ++ none 4 4) in
         elim (fenced_most ts n ih parameter kinds.LeftParenthesis kinds.RightParenthesis refl ps qs h.1 h.2 i.2 h.7 mine (omega (arith, ga, gb, ge, gf, le))) [
           | inl same ↦ elim (right_most ts n ih false loosest x y (size x) (size y) (h.3 + 1) to end (omega arith) (omega arith) (omega arith) h.10 (subst U (sym e.1) i.10) (omega (arith, ga, gb, gc, h.7.4, ge, le))) [
             | inl alike ↦ inl (cc (a.0, b.0, same.0, e.0, alike.0), alike.1)
-            | inr more ↦ inr (inr (ap may_size a.0, inr (ap may_size b.0, more_after (items_take ps) (items_take qs) us vs (ap items_take same.0) (inr (ap return_size e.0, more_before (size x ∷ takes loosest x) (size y ∷ takes loosest y) (none 0 0) (none 0 0) more)))))
+            | inr more ↦ inr (inr (ap may_size a.0, inr (ap may_size b.0, more_after (items_take ps) (items_take qs) us vs (ap items_take same.0) (inr (ap return_size e.0, more_before (size x ∷ takes loosest x) (size y ∷ takes loosest y) (none 4 4) (none 4 4) more)))))
           ]
           | inr more ↦ inr (inr (ap may_size a.0, inr (ap may_size b.0, more_before (items_take ps) (items_take qs) us vs more)))
         ]
@@ -385,7 +412,6 @@ module _ (ts : List Token) where
         best_pad (Exit es) (Exit ds) to end (arguments_take es) (arguments_take ds) (none 0 0) (best_map Exit es ds to end to end (arguments_take es) (arguments_take ds) (λ q. q) (arguments_most ts n ih true es ds (at + 1) to end h.1 i.1 (omega (arith, le))))
     atom_by (Match x es) (Match y ds) at to end h i le some e = match_most x y es ds at to end h i le
     atom_by (Closure s r ps cs type body) (Closure u v qs ds kind other) at to end h i le some e = closure_most s r ps cs type body u v qs ds kind other at to end h i le
-    atom_by (Arrow s r ps type x) (Arrow u v qs kind y) at to end h i le some e = arrow_most s r ps type x u v qs kind y at to end h i le
     atom_by (Text ps) (Text qs) at to end h i le some e = text_most ps qs at to end h.0 i.0 le
     atom_by f (Array styles.Brackets ds) at to end h i le some e = absurd (omega (arith, some, e))
     atom_by f (Array styles.Array ds) at to end h i le some e = absurd (omega (arith, some, e))
@@ -400,7 +426,7 @@ module _ (ts : List Token) where
         → Best e d to end (takes 0 e) (takes 0 d) ⊎ ((xs : List ℕ) × (takes 0 e ≡ 1 ∷ xs) × (takes 0 d ≡ []) × (J ts end ≡ 0))
     atom_most (node t f) (node u g) at to end h i le = elim (form_leads (N ts) f at to h.1) [
       | inl p ↦ elim (form_leads Free g at end i.1) [
-        | inl q ↦ inl (atom_tree t u f g at to end (one_token ts at t u h.0 i.0) (atom_by f g at to end h.1 i.1 le (let some = leads_some (kind_at ts at) (kind_at ts (at + 1)) in omega (arith, p, some)) (p ∙ sym q)))
+        | inl q ↦ inl (tree_of_form 0 t u f g to end (one_token ts at t u h.0 i.0) (atom_by f g at to end h.1 i.1 le (let some = leads_some (kind_at ts at) (kind_at ts (at + 1)) in omega (arith, p, some)) (p ∙ sym q)))
         | inr c ↦
             let some = leads_cut (kind_at ts at) (kind_at ts (at + 1)) c.2.0 in
             let r = static_takes (N ts) f at to h.1 c.2.0 (omega (arith, p, c.2.2)) (omega (arith, p, some)) in
@@ -495,15 +521,38 @@ module _ (ts : List Token) where
         (class_most x y (at + 1) h.0 i.0 h.3 i.3 (omega (arith, b, le)))
         (λ p q. arguments_most ts n ih true es ds h.0 to end h.4 (subst P (sym q) i.4) (omega (arith, a, le))))
 
+    -- `static` alone, where the other tree is an arrow function
+    static_more : (g t : Tree) (s r : Bool) (ps : Items) (type : Option TypeTree) (x : Tree) (at to end : ℕ) → takes 4 g ≡ form_takes 4 (Arrow s r ps type x) → Forms ts (N ts) true 4 (Arrow s r ps type x) at to → Simple ts Free free_weak t at end → More (takes 4 g) (takes 4 t)
+    static_more g t s r ps type x at to end e h w =
+        let c = arrow_alone Free w.0 at w.2 w.4 (arrow_leads (N ts) s r ps type x at to h) in
+        let first = static_arrow (N ts) s r ps type x at to h c.2.0 in
+        let P : ℕ → Type 0 = λ z. J ts z ≡ 0 in
+        let j = subst P (sym c.3) (joins_none (at + 1) c.2.3) in
+        more_is (takes 4 g) (takes 4 t) ((1 ∷ []) ++ first.0) (takes 0 w.0 ++ (steps_size w.1 ∷ (steps_take w.1 ++ w.3))) (e ∙ first.1) w.8 (more_static (1 ∷ []) (takes 0 w.0) [] first.0 w.1 w.3 w.2 end refl c.1 j w.5)
+
+    -- a greedy tree is not `static` alone there
+    static_never : (e : Tree) (at to : ℕ) → Greedy ts true 0 e at to → Leads at ≡ 11 → ⊥
+    static_never e at to h q =
+        let c = arrow_alone (N ts) e at to h q in
+        let P : ℕ → Type 0 = λ z. J ts z ≡ 0 in
+        let j = subst P (sym c.3) (joins_none (at + 1) c.2.3) in
+        let far = c.4 (let low = ap leaf_low c.2.1 in omega (arith, low)) in
+        omega (arith, j, far)
+
+    operand_by : (t u : Token) (f g : Form) (at to end : ℕ) → t ≡ u → to ≤ suc n + at → Operand (N ts) near_weak near_drop t f at to → Operand Free free_weak free_drop u g at end
+        → Best (node t f) (node u g) to end (takes 4 (node t f)) (takes 4 (node u g))
+    operand_by t u f g at to end s le (inl v) (inl w) = form_tree t u f g (New v.0 v.1) (New w.0 w.1) to end v.2 w.2 s (new_most v.0 w.0 v.1 w.1 at to end v.3 w.3 le)
+    operand_by t u f g at to end s le (inl v) (inr (inl w)) = absurd (new_leads (N ts) v.0 v.1 at to v.3 (arrow_leads Free w.0 w.1 w.2 w.3 w.4 at end w.6))
+    operand_by t u f g at to end s le (inl v) (inr (inr w)) = absurd (atom_new Free w.0 at w.2 w.4 v.3.2)
+    operand_by t u f g at to end s le (inr (inl v)) (inl w) = absurd (new_leads Free w.0 w.1 at end w.3 (arrow_leads (N ts) v.0 v.1 v.2 v.3 v.4 at to v.6))
+    operand_by t u f g at to end s le (inr (inl v)) (inr (inl w)) =
+        form_tree t u f g (Arrow v.0 v.1 v.2 v.3 v.4) (Arrow w.0 w.1 w.2 w.3 w.4) to end v.5 w.5 s (arrow_most v.0 v.1 v.2 v.3 v.4 w.0 w.1 w.2 w.3 w.4 at to end v.6 w.6 le)
+    operand_by t u f g at to end s le (inr (inl v)) (inr (inr w)) = inr (static_more (node t f) (node u g) v.0 v.1 v.2 v.3 v.4 at to end (ap (form_takes 4) v.5) v.6 w)
+    operand_by t u f g at to end s le (inr (inr v)) (inl w) = absurd (atom_new (N ts) v.0 at v.2 v.4 w.3.2)
+    operand_by t u f g at to end s le (inr (inr v)) (inr (inl w)) = absurd (static_never v.0 at v.2 v.4 (arrow_leads Free w.0 w.1 w.2 w.3 w.4 at end w.6))
+    operand_by t u f g at to end s le (inr (inr v)) (inr (inr w)) = simple_most (node t f) (node u g) at to end v w le
+
     -- an operand without operator takes the most
     pub operand_most : (g t : Tree) (at to end : ℕ) → Reads ts (N ts) true 4 g at to → Reads ts Free true 4 t at end → to ≤ suc n + at → Best g t to end (takes 4 g) (takes 4 t)
-    operand_most (node t f) (node u g) at to end h i le = elim (simple_of (N ts) near_weak near_drop t f at to h) [
-      | inl v ↦ elim (simple_of Free free_weak free_drop u g at end i) [
-        | inl w ↦ new_tree t u f g at to end v.0 w.0 v.1 w.1 v.2 w.2 (one_token ts at t u h.0 i.0) (new_most v.0 w.0 v.1 w.1 at to end v.3 w.3 le)
-        | inr w ↦ absurd (atom_new Free w.0 at w.2 w.4 v.3.2)
-      ]
-      | inr v ↦ elim (simple_of Free free_weak free_drop u g at end i) [
-        | inl w ↦ absurd (atom_new (N ts) v.0 at v.2 v.4 w.3.2)
-        | inr w ↦ simple_most (node t f) (node u g) at to end v w le
-      ]
-    ]
+    operand_most (node t f) (node u g) at to end h i le =
+        operand_by t u f g at to end (one_token ts at t u h.0 i.0) le (simple_of (N ts) near_weak near_drop t f at to h) (simple_of Free free_weak free_drop u g at end i)

@@ -6,7 +6,7 @@ use Rattle.stan_model_grammar.specs.declared.token.TokenKind.TheVariants as kind
 use Rattle.stan_model_grammar.specs.Strata.{kind_at, loosest, joins, names_argument, names_member, is_part, is_end}
 use Rattle.stan_model_grammar.specs.Trees.{Tree, Items, no_item, items, Item, Positional, Spread, Named, Element, KeyedElement, Parameter, Captured, Arm, DefaultArm, Default, no_default, default, Arguments, no_arguments, arguments, MemberName, NamedMember, ComputedMember, Steps, no_step, step, Step, Push, Index, Property, Scoped, Call, Increment, Decrement, Operation, Part, Inserted, Further}
 use Rattle.stan_model_grammar.specs.Expressions.{ItemSort, argument, element, expression, parameter, captured, arm, StepSort, part, further, IsSuffix, IsSomeItem, takes_arguments, Is, May, Between, Reads, Lists, ItemReads, Defaults, MayBeCalled, Members, Repeats, StepReads, IsEnd}
-use Rattle.stan_expr_law.proofs.InsideLemmas.{stands_kind, items_go, steps_go}
+use Rattle.stan_expr_rules.proofs.InsideLemmas.{stands_kind, items_go, steps_go}
 use Rattle.stan_expr_rules.proofs.Greedy.{J, Greedy}
 use Rattle.stan_expr_law.proofs.Spelled.{Free}
 use Rattle.stan_expr_takes.proofs.Cut.{exact_end}

@@ -9,7 +9,7 @@ use Rattle.stan_model_grammar.specs.Strata.{kind_at, loosest, binary_at, binary_
 use Rattle.stan_model_grammar.specs.Trees.{Tree, Items, no_item, items, Item, Positional, Spread, Named, Element, KeyedElement, Parameter, Captured, Arm, DefaultArm, Default, no_default, default, Arguments, no_arguments, arguments, MemberName, NamedMember, ComputedMember, Steps, no_step, step, Step, Push, Index, Property, Scoped, Call, Increment, Decrement, Operation, Part, Inserted, Further}
 use Rattle.stan_model_grammar.specs.Expressions.{ItemSort, argument, element, expression, parameter, captured, arm, StepSort, part, operation, further, IsSuffix, takes_arguments, arrow, Is, May, Between, Operates, Reads, Lists, ItemReads, Defaults, MayBeCalled, Members, Repeats, StepReads}
 use Rattle.stan_model_grammar.specs.Takes.{may_size, visibility_size, may_type_size, size, items_size, arguments_size, steps_size, takes, items_take, item_takes, default_take, arguments_take, member_takes, steps_take, step_takes, More}
-use Rattle.stan_expr_law.proofs.InsideLemmas.{stands_kind, reads_inside, items_go, steps_go, step_inside, item_inside, may_goes, member_inside, arguments_go}
+use Rattle.stan_expr_rules.proofs.InsideLemmas.{stands_kind, reads_inside, items_go, steps_go, step_inside, item_inside, may_goes, member_inside, arguments_go}
 use Rattle.stan_expr_law.proofs.SizeLemmas.{reads_size, items_are_size, arguments_are_size, steps_are_size}
 use Rattle.stan_expr_rules.proofs.Greedy.{Greedy}
 use Rattle.stan_expr_law.proofs.Spelled.{Free}
@@ -365,25 +365,27 @@ module _ (ts : List Token) where
 
     -- ---- operators with their operands
 
-    operand_most : (j : ℕ) (o p : BinaryOperator) (e d : Tree) (at m k b c : ℕ) → Operates ts o at m → Operates ts p at k → Greedy ts false (tighter (binary_stratum o)) e m b → Reads ts Free false (tighter (binary_stratum p)) d k c → b ≤ suc n + at
-        → Best (Operation sign o e) (Operation p d) b c (takes (tighter (binary_stratum o)) e) (takes (tighter (binary_stratum p)) d)
-    operand_most j o p e d at m k b c f g h i le =
+    operand_most : (j : ℕ) (s t : Token) (o p : BinaryOperator) (e d : Tree) (at m k b c : ℕ) → Operates ts s o at m → Operates ts t p at k → Greedy ts false (tighter (binary_stratum o)) e m b → Reads ts Free false (tighter (binary_stratum p)) d k c → b ≤ suc n + at
+        → Best (Operation s o e) (Operation t p d) b c (takes (tighter (binary_stratum o)) e) (takes (tighter (binary_stratum p)) d)
+    operand_most j s t o p e d at m k b c f g h i le =
         let same = some_same (binary_at (kind_at ts at) (kind_at ts (at + 1))) o p f.0 g.0 in
         let P : BinaryOperator → Type 0 = λ z. Reads ts Free false (tighter (binary_stratum z)) d k c in
         let place : k ≡ m = omega (arith, f.1, g.1, ap binary_size same) in
         let Q : ℕ → Type 0 = λ z. Reads ts Free false (tighter (binary_stratum o)) d z c in
         let moved = subst Q place (subst P (sym same) i) in
-        let R : BinaryOperator → Type 0 = λ z. Best (Operation sign o e) (Operation z d) b c (takes (tighter (binary_stratum o)) e) (takes (tighter (binary_stratum z)) d) in
+        let sign = one_token ts at s t f.2 g.2 in
+        let S : Token → Type 0 = λ z. Best (Operation s o e) (Operation z p d) b c (takes (tighter (binary_stratum o)) e) (takes (tighter (binary_stratum p)) d) in
+        let R : BinaryOperator → Type 0 = λ z. Best (Operation s o e) (Operation s z d) b c (takes (tighter (binary_stratum o)) e) (takes (tighter (binary_stratum z)) d) in
         let range = tighter_range o in
         let some = binary_some o in
-        subst R same (best_map (Operation o) e d b c b c (takes (tighter (binary_stratum o)) e) (takes (tighter (binary_stratum o)) d) (λ q. q)
-        (ih false (tighter (binary_stratum o)) range.0 range.1 e d m b c h moved (omega (arith, f.1, some))))
+        subst S sign (subst R same (best_map (Operation s o) e d b c b c (takes (tighter (binary_stratum o)) e) (takes (tighter (binary_stratum o)) d) (λ q. q)
+        (ih false (tighter (binary_stratum o)) range.0 range.1 e d m b c h moved (omega (arith, f.1, some)))))
 
     operation_most : (j : ℕ) (x y : Step) (at b c : ℕ) → StepReads ts (N ts) (operation j) x at b → StepReads ts Free (operation j) y at c → b ≤ suc n + at → Best x y b c (step_takes x) (step_takes y)
     operation_most j x y at b c h i le =
         let v = operation_of ts (N ts) j x at b h in
         let w = operation_of ts Free j y at c i in
-        best_eq step_takes x y (Operation v.0 v.1) (Operation w.0 w.1) b c v.3 w.3 (operand_most j v.0 w.0 v.1 w.1 at v.2 w.2 b c v.5 w.5 v.6 w.6 le)
+        best_eq step_takes x y (Operation v.0 v.1 v.2) (Operation w.0 w.1 w.2) b c v.4 w.4 (operand_most j v.0 w.0 v.1 w.1 v.2 w.2 at v.3 w.3 b c v.6 w.6 v.7 w.7 le)
 
     pub operations_most : (j : ℕ) (ss rs : Steps) (at to end : ℕ) → Repeats ts (N ts) (operation j) ss at to → Repeats ts Free (operation j) rs at end → to ≡ end → to ≤ suc n + at → (ss ≡ rs) ⊎ More (steps_take ss) (steps_take rs)
     operations_most j = steps_most (operation j) (suc n) (operation_most j)

@@ -9,7 +9,7 @@ use Rattle.stan_model_grammar.specs.declared.token.TokenKind.TheVariants as kind
 use Rattle.stan_model_grammar.specs.Strata.{kind_at, loosest, binary_stratum, fixity, tighter, joins, names_argument, is_part, is_end, visibility_of}
 use Rattle.stan_model_grammar.specs.Trees.{TypeTree, Tree, no_item, items, Item, Positional, Spread, Named, Element, KeyedElement, Parameter, Captured, Arm, DefaultArm, Steps, no_step, step, Step, Push, Index, Property, Scoped, Call, Increment, Decrement, Operation, Part, Inserted, Further}
 use Rattle.stan_model_grammar.specs.Expressions.{ItemSort, argument, element, expression, parameter, captured, arm, StepSort, suffix, class_suffix, part, operation, further, IsSuffix, is_scoped, arrow, Is, Stands, May, Between, Operates, MayBeVisible, MayBeTyped, Reads, ItemReads, Repeats, StepReads}
-use Rattle.stan_expr_law.proofs.InsideLemmas.{stands_kind, visibility_goes, may_type_goes, may_goes}
+use Rattle.stan_expr_rules.proofs.InsideLemmas.{stands_kind, visibility_goes, may_type_goes, may_goes}
 use Rattle.stan_expr_rules.proofs.Greedy.{J, Near}
 use Rattle.stan_expr_law.proofs.Spelled.{Free}
 use Rattle.stan_expr_takes.proofs.TakesStarts.{clash, starts, one_token, begins, may_same, visibility_same, may_type_same, typed, type_begins}
@@ -277,7 +277,7 @@ module _ (ts : List Token) where
     part_of (Further x) at to h = absurd h
 
     pub operation_of : (j : ℕ) (x : Step) (at to : ℕ) → StepReads ts S (operation j) x at to
-        → (o : BinaryOperator) × (e : Tree) × (m : ℕ) × (x ≡ Operation sign o e) × ((binary_stratum o ≡ j) × (fixity o ≡ fixities.Left)) × Operates ts o at m × Reads ts S false (tighter (binary_stratum o)) e m to
+        → (sign : Token) × (o : BinaryOperator) × (e : Tree) × (m : ℕ) × (x ≡ Operation sign o e) × ((binary_stratum o ≡ j) × (fixity o ≡ fixities.Left)) × Operates ts sign o at m × Reads ts S false (tighter (binary_stratum o)) e m to
     operation_of j Push at to h = absurd h.0
     operation_of j (Index e) at to h = absurd h.0
     operation_of j (Property nullsafe name es) at to h = absurd h.1
@@ -285,7 +285,7 @@ module _ (ts : List Token) where
     operation_of j (Call es) at to h = absurd h.0
     operation_of j Increment at to h = absurd h.0
     operation_of j Decrement at to h = absurd h.0
-    operation_of j (Operation sign o e) at to h = (o, e, h.0, refl, h.1, h.2, h.3)
+    operation_of j (Operation sign o e) at to h = (sign, o, e, h.0, refl, h.1, h.2, h.3)
     operation_of j (Part t) at to h = absurd h.0
     operation_of j (Inserted e) at to h = absurd h.0
     operation_of j (Further x) at to h = absurd h

@@ -16,7 +16,7 @@ use Rattle.stan_model_grammar.specs.Strata.{kind_at, leaf_of, prefix_of, prefix_
 use Rattle.stan_model_grammar.specs.Trees.{Tree, node, Form, Single, Brackets, Array, IsSet, Empty, Exit, New, Match, Closure, Arrow, Text, Post, Prefix, Assignment, Chain, Binary, Conditional, Steps, no_step, step}
 use Rattle.stan_model_grammar.specs.Expressions.{operation, IsSomeStep, Is, Assigns, Reads, Forms, Repeats}
 use Rattle.stan_model_grammar.specs.Takes.{size, steps_size, zeros, none, takes, steps_take, More}
-use Rattle.stan_expr_law.proofs.InsideLemmas.{reads_inside, steps_go, step_inside}
+use Rattle.stan_expr_rules.proofs.InsideLemmas.{reads_inside, steps_go, step_inside}
 use Rattle.stan_expr_law.proofs.SizeLemmas.{reads_size, steps_are_size}
 use Rattle.stan_expr_rules.specs.Parse.{first_of}
 use Rattle.stan_expr_law.proofs.Spelled.{Free}
@@ -146,8 +146,8 @@ module _ (ts : List Token) where
           let b = (steps_go ts S xs (operation j) h.0 to h.2).0 in
           omega (arith, a, b)
 
-      operated_goes : (o : BinaryOperator) (d : Tree) (j at to : ℕ) → RestReads ts S weak j (operated o d) at to → at < to
-      operated_goes o d j at to h = let a = (reads_inside ts S d false (right_side (fixity o) (binary_stratum o)) h.0 to h.4).0 in omega (arith, a, h.3.1)
+      operated_goes : (sign : Token) (o : BinaryOperator) (d : Tree) (j at to : ℕ) → RestReads ts S weak j (operated sign o d) at to → at < to
+      operated_goes sign o d j at to h = let a = (reads_inside ts S d false (right_side (fixity o) (binary_stratum o)) h.0 to h.4).0 in omega (arith, a, h.3.1)
 
       asked_goes : (d c : Tree) (j at to : ℕ) → RestReads ts S weak j (asked d c) at to → at < to
       asked_goes d c j at to h =
@@ -158,13 +158,13 @@ module _ (ts : List Token) where
       rest_goes : (r : Rest) (j at to : ℕ) → RestReads ts S weak j r at to → at ≤ to
       rest_goes nothing j at to h = omega (arith, h)
       rest_goes (chained ss) j at to h = let a = some_goes ss j at to h.0 h.1 in omega (arith, a)
-      rest_goes (operated o d) j at to h = let a = operated_goes o d j at to h in omega (arith, a)
+      rest_goes (operated sign o d) j at to h = let a = operated_goes sign o d j at to h in omega (arith, a)
       rest_goes (asked d c) j at to h = let a = asked_goes d c j at to h in omega (arith, a)
 
       -- the first operator of a chain
       first_operator : (ss : Steps) (j at to : ℕ) → IsSomeStep ss → Repeats ts S (operation j) ss at to → (o : BinaryOperator) × (fixity o ≡ fixities.Left) × (binary_at (kind_at ts at) (kind_at ts (at + 1)) ≡ Some o)
       first_operator no_step j at to some h = absurd some
-      first_operator (step x xs) j at to some h = let v = operation_of ts S j x at h.0 h.1 in (v.0, v.4.1, v.5.0)
+      first_operator (step x xs) j at to some h = let v = operation_of ts S j x at h.0 h.1 in (v.1, v.5.1, v.6.0)
 
       -- `?` that is an operator of two tokens, and `?` before an expression
       unasked : (o : BinaryOperator) (d : Tree) (at to : ℕ) → binary_at (kind_at ts at) (kind_at ts (at + 1)) ≡ Some o → Is ts at kinds.Question → Reads ts S false loosest d (at + 1) to → ⊥
@@ -257,19 +257,21 @@ module _ (ts : List Token) where
         best_pad (chained ss) (chained rs) to end (steps_take ss) (steps_take rs) (none j j)
         (elim (operations_most ts n ih j ss rs m to end h.1 i.1 q (omega (arith, le))) [ inl same ↦ inl (ap chained same, q) | inr more ↦ inr more ]))
 
-    operated_most : (j : ℕ) (o q : BinaryOperator) (d e : Tree) (m to end : ℕ) → RestMost j (operated o d) (operated q e) m to end
-    operated_most j o q d e m to end h i long le =
+    operated_most : (j : ℕ) (s t : Token) (o q : BinaryOperator) (d e : Tree) (m to end : ℕ) → RestMost j (operated s o d) (operated t q e) m to end
+    operated_most j s t o q d e m to end h i long le =
         let same = some_same (binary_at (kind_at ts m) (kind_at ts (m + 1))) o q h.3.0 i.3.0 in
         let place : i.0 ≡ h.0 = omega (arith, h.3.1, i.3.1, ap binary_size same) in
         let P : BinaryOperator → Type 0 = λ z. Reads ts Free false (right_side (fixity z) (binary_stratum z)) e i.0 end in
         let k = right_side (fixity o) (binary_stratum o) in
         let Q : ℕ → Type 0 = λ z. Reads ts Free false (right_side (fixity o) (binary_stratum o)) e z end in
         let moved = subst Q place (subst P (sym same) i.4) in
-        let R : BinaryOperator → Type 0 = λ z. Best (operated o d) (operated z e) to end (rest_takes j (operated o d)) (rest_takes j (operated z e)) in
+        let sign = one_token ts m s t h.3.2 i.3.2 in
+        let S : Token → Type 0 = λ z. Best (operated s o d) (operated z q e) to end (rest_takes j (operated s o d)) (rest_takes j (operated z q e)) in
+        let R : BinaryOperator → Type 0 = λ z. Best (operated s o d) (operated s z e) to end (rest_takes j (operated s o d)) (rest_takes j (operated s z e)) in
         let range = side_range o in
-        subst R same (best_pad (operated o d) (operated o e) to end (size d ∷ takes k d) (size e ∷ takes k e) (none (binary_stratum o) j)
-        (best_map (operated o) d e to end to end (size d ∷ takes k d) (size e ∷ takes k e) (λ z. z)
-        (right_most ts n ih false k d e (size d) (size e) h.0 to end range.0 range.1 (omega arith) h.4 moved (omega (arith, h.3.1, le)))))
+        subst S sign (subst R same (best_pad (operated s o d) (operated s o e) to end (size d ∷ takes k d) (size e ∷ takes k e) (none (binary_stratum o) j)
+        (best_map (operated s o) d e to end to end (size d ∷ takes k d) (size e ∷ takes k e) (λ z. z)
+        (right_most ts n ih false k d e (size d) (size e) h.0 to end range.0 range.1 (omega arith) h.4 moved (omega (arith, h.3.1, le))))))
 
     asked_most : (j : ℕ) (d c e b : Tree) (m to end : ℕ) → RestMost j (asked d c) (asked e b) m to end
     asked_most j d c e b m to end h i long le =
@@ -291,7 +293,7 @@ module _ (ts : List Token) where
     rest_most : (j : ℕ) → 6 ≤ j → (r s : Rest) (m to end : ℕ) → RestMost j r s m to end
     rest_most j six nothing nothing m to end h i long le = inl (refl, sym h ∙ i)
     rest_most j six nothing (chained rs) m to end h i long le = let a = some_goes Free (free_weak ts) rs j m end i.0 i.1 in absurd (omega (arith, a, h, long))
-    rest_most j six nothing (operated q e) m to end h i long le = let a = operated_goes Free (free_weak ts) q e j m end i in absurd (omega (arith, a, h, long))
+    rest_most j six nothing (operated u q e) m to end h i long le = let a = operated_goes Free (free_weak ts) u q e j m end i in absurd (omega (arith, a, h, long))
     rest_most j six nothing (asked e b) m to end h i long le = let a = asked_goes Free (free_weak ts) e b j m end i in absurd (omega (arith, a, h, long))
     rest_most j six (chained ss) nothing m to end h i long le =
         let a = some_goes (N ts) (near_weak ts) ss j m to h.0 h.1 in
@@ -299,27 +301,27 @@ module _ (ts : List Token) where
         let c = (tighter_low j six).1 in
         inr (zeros_more (steps_size ss) (j - tighter j) (steps_take ss ++ none j j) (omega (arith, a, b)) (omega (arith, c)))
     rest_most j six (chained ss) (chained rs) m to end h i long le = chained_most j ss rs m to end h i long le
-    rest_most j six (chained ss) (operated q e) m to end h i long le =
+    rest_most j six (chained ss) (operated u q e) m to end h i long le =
         let v = first_operator (N ts) (near_weak ts) ss j m to h.0 h.1 in
         let same = some_same (binary_at (kind_at ts m) (kind_at ts (m + 1))) q v.0 i.3.0 v.2 in
         absurd (i.2 (ap fixity same ∙ v.1))
     rest_most j six (chained ss) (asked e b) m to end h i long le = let v = first_operator (N ts) (near_weak ts) ss j m to h.0 h.1 in absurd (unasked Free (free_weak ts) v.0 e m i.0 v.2 i.1 i.2)
-    rest_most j six (operated o d) nothing m to end h i long le =
+    rest_most j six (operated s o d) nothing m to end h i long le =
         let a = reads_size ts (N ts) d false (right_side (fixity o) (binary_stratum o)) h.0 to h.4 in
         let b = (reads_inside ts (N ts) d false (right_side (fixity o) (binary_stratum o)) h.0 to h.4).0 in
         let c = (tighter_low j six).1 in
         inr (zeros_more (size d) (j - tighter j) (takes (right_side (fixity o) (binary_stratum o)) d ++ none (binary_stratum o) j) (omega (arith, a, b)) (omega (arith, c)))
-    rest_most j six (operated o d) (chained rs) m to end h i long le =
+    rest_most j six (operated s o d) (chained rs) m to end h i long le =
         let v = first_operator Free (free_weak ts) rs j m end i.0 i.1 in
         let same = some_same (binary_at (kind_at ts m) (kind_at ts (m + 1))) o v.0 h.3.0 v.2 in
         absurd (h.2 (ap fixity same ∙ v.1))
-    rest_most j six (operated o d) (operated q e) m to end h i long le = operated_most j o q d e m to end h i long le
-    rest_most j six (operated o d) (asked e b) m to end h i long le = absurd (unasked Free (free_weak ts) o e m i.0 h.3.0 i.1 i.2)
+    rest_most j six (operated s o d) (operated u q e) m to end h i long le = operated_most j s u o q d e m to end h i long le
+    rest_most j six (operated s o d) (asked e b) m to end h i long le = absurd (unasked Free (free_weak ts) o e m i.0 h.3.0 i.1 i.2)
     rest_most j six (asked d c) nothing m to end h i long le =
         let a = (tighter_low j six).1 in
         inr (zeros_more (size d + size c + 2) (j - tighter j) (takes loosest d ++ (size c ∷ (takes 21 c ++ none 23 j))) (omega arith) (omega (arith, a)))
     rest_most j six (asked d c) (chained rs) m to end h i long le = let v = first_operator Free (free_weak ts) rs j m end i.0 i.1 in absurd (unasked (N ts) (near_weak ts) v.0 d m h.0 v.2 h.1 h.2)
-    rest_most j six (asked d c) (operated q e) m to end h i long le = absurd (unasked (N ts) (near_weak ts) q d m h.0 i.3.0 h.1 h.2)
+    rest_most j six (asked d c) (operated u q e) m to end h i long le = absurd (unasked (N ts) (near_weak ts) q d m h.0 i.3.0 h.1 h.2)
     rest_most j six (asked d c) (asked e b) m to end h i long le = asked_most j d c e b m to end h i long le
 
     stratum_most : (p : Bool) (j : ℕ) → 6 ≤ j → j ≤ loosest → Most ts (suc n) p (tighter j) → Most ts (suc n) p j

@@ -21,6 +21,7 @@ use Rattle.stan_expr_takes.proofs.TakesKinds.{operation_of}
 abbrev pub own : Form → ℕ
 own (New class es) = 4
 own (Post e ss) = 4
+own (Arrow static reference parameters type e) = 4
 own (Prefix o e) = 5
 own (Assignment target o e) = 5
 own (Chain j e ss) = j
@@ -38,7 +39,7 @@ takes_split (Exit es) b j lo hi = simp (none_split 0 b j lo hi, append_assoc)
 takes_split (New class es) b j lo hi = simp (none_split 4 b j lo hi, append_assoc)
 takes_split (Match e arms) b j lo hi = simp (none_split 0 b j lo hi, append_assoc)
 takes_split (Closure s r ps cs type body) b j lo hi = simp (none_split 0 b j lo hi, append_assoc)
-takes_split (Arrow s r ps type e) b j lo hi = simp (none_split 0 b j lo hi, append_assoc)
+takes_split (Arrow s r ps type e) b j lo hi = simp (none_split 4 b j lo hi, append_assoc)
 takes_split (Text parts) b j lo hi = simp (none_split 0 b j lo hi, append_assoc)
 takes_split (Post e ss) b j lo hi = simp (none_split 4 b j lo hi, append_assoc)
 takes_split (Prefix o e) b j lo hi = simp (none_split 5 b j lo hi, append_assoc)
@@ -55,19 +56,19 @@ tree_split t f b j lo hi = takes_split f b j lo hi
 pub data Rest : Type 0 where
   nothing : Rest
   chained : Steps → Rest
-  operated : BinaryOperator → Tree → Rest
+  operated : Token → BinaryOperator → Tree → Rest
   asked : Tree → Tree → Rest
 
 abbrev pub joined : ℕ → Tree → Rest → Tree
 joined j e nothing = e
 joined j e (chained ss) = node (first_of e) (Chain j e ss)
-joined j e (operated o d) = node (first_of e) (Binary e sign o d)
+joined j e (operated sign o d) = node (first_of e) (Binary e sign o d)
 joined j e (asked d c) = node (first_of e) (Conditional e d c)
 
 abbrev pub rest_takes : ℕ → Rest → List ℕ
 rest_takes j nothing = zeros (j - tighter j)
 rest_takes j (chained ss) = steps_size ss ∷ (steps_take ss ++ none j j)
-rest_takes j (operated o d) = size d ∷ (takes (right_side (fixity o) (binary_stratum o)) d ++ none (binary_stratum o) j)
+rest_takes j (operated sign o d) = size d ∷ (takes (right_side (fixity o) (binary_stratum o)) d ++ none (binary_stratum o) j)
 rest_takes j (asked d c) = (size d + size c + 2) ∷ (takes loosest d ++ (size c ∷ (takes 21 c ++ none 23 j)))
 
 -- a tree, and what is appended to it
@@ -114,7 +115,7 @@ module _ (ts : List Token) (S : ℕ → ℕ → ℕ → Type 0) (weak : (low j k
   narrow_form (New class es) p b j at to lo hi h = (h.0, lo, h.2, h.3, h.4, weak 5 b j to hi h.5)
   narrow_form (Match e arms) p b j at to lo hi h = (h.0, h.1, h.2, h.3, weak 1 b j to hi h.4)
   narrow_form (Closure s r ps cs type body) p b j at to lo hi h = (h.0, h.1, h.2, h.3, h.4, h.5, h.6, h.7, h.8, h.9, h.10, h.11, weak 1 b j to hi h.12)
-  narrow_form (Arrow s r ps type e) p b j at to lo hi h = (h.0, h.1, h.2, h.3, h.4, h.5, h.6, h.7, h.8, h.9, h.10, weak 1 b j to hi h.11)
+  narrow_form (Arrow s r ps type e) p b j at to lo hi h = (h.0, h.1, h.2, h.3, h.4, h.5, h.6, h.7, h.8, h.9, h.10, weak 5 b j to hi h.11, lo)
   narrow_form (Text parts) p b j at to lo hi h = (h.0, weak 1 b j to hi h.1)
   narrow_form (Post e ss) p b j at to lo hi h = (h.0, lo, h.2, h.3, h.4, weak 1 b j to hi h.5)
   narrow_form (Prefix o e) p b j at to lo hi h = (lo, h.1, h.2, weak 6 b j to hi h.3)
@@ -136,7 +137,7 @@ module _ (ts : List Token) (S : ℕ → ℕ → ℕ → Type 0) (weak : (low j k
   abbrev pub RestReads : ℕ → Rest → ℕ → ℕ → Type 0
   RestReads j nothing at to = at ≡ to
   RestReads j (chained ss) at to = IsSomeStep ss × Repeats ts S (operation j) ss at to
-  RestReads j (operated o d) at to = (c : ℕ) × (binary_stratum o ≡ j) × (fixity o ≢ fixities.Left) × Operates ts o at c × Reads ts S false (right_side (fixity o) (binary_stratum o)) d c to
+  RestReads j (operated sign o d) at to = (c : ℕ) × (binary_stratum o ≡ j) × (fixity o ≢ fixities.Left) × Operates ts sign o at c × Reads ts S false (right_side (fixity o) (binary_stratum o)) d c to
   RestReads j (asked d c) at to = (b : ℕ) × Is ts at kinds.Question × Reads ts S false loosest d (at + 1) b × Is ts b kinds.Colon × Reads ts S false 21 c (b + 1) to
 
   abbrev pub Rested : Bool → ℕ → Tree → ℕ → ℕ → Type 0
@@ -150,7 +151,7 @@ module _ (ts : List Token) (S : ℕ → ℕ → ℕ → Type 0) (weak : (low j k
 
   chain_gap : (ss : Steps) (j at to : ℕ) → IsSomeStep ss → Repeats ts S (operation j) ss at to → j ≢ 22
   chain_gap no_step j at to some h e = some
-  chain_gap (step x xs) j at to some h e = let v = operation_of ts S j x at h.0 h.1 in stratum_gap v.0 (v.4.0 ∙ e)
+  chain_gap (step x xs) j at to some h e = let v = operation_of ts S j x at h.0 h.1 in stratum_gap v.1 (v.5.0 ∙ e)
 
   rested_chain : (t : Token) (e : Tree) (ss : Steps) (p : Bool) (j at to : ℕ) → 6 ≤ j → Reads ts S p j (node t (Chain j e ss)) at to → Rested p j (node t (Chain j e ss)) at to
   rested_chain t e ss p j at to six h =
@@ -158,13 +159,13 @@ module _ (ts : List Token) (S : ℕ → ℕ → ℕ → Type 0) (weak : (low j k
       let s = first_same t e false (tighter j) at h.1.0 h.0 r in
       (e, chained ss, h.1.0, raised ts S p (tighter j) e at h.1.0 r, (h.1.3, h.1.5), ap (λ z. node z (Chain j e ss)) s, refl)
 
-  rested_binary : (t : Token) (d : Tree) (o : BinaryOperator) (e : Tree) (p : Bool) (at to : ℕ) → Reads ts S p (binary_stratum o) (node t (Binary d sign o e)) at to → Rested p (binary_stratum o) (node t (Binary d sign o e)) at to
-  rested_binary t d o e p at to h =
+  rested_binary : (t : Token) (d : Tree) (sign : Token) (o : BinaryOperator) (e : Tree) (p : Bool) (at to : ℕ) → Reads ts S p (binary_stratum o) (node t (Binary d sign o e)) at to → Rested p (binary_stratum o) (node t (Binary d sign o e)) at to
+  rested_binary t d sign o e p at to h =
       let q = tighter_side o h.1.3 in
       let P : ℕ → Type 0 = λ z. Reads ts S p z d at h.1.0 in
       let r = subst P (sym q) (raised ts S p (binary_stratum o - 1) d at h.1.0 h.1.4) in
-      let Q : ℕ → Type 0 = λ z. takes (binary_stratum o) (node t (Binary d sign o e)) ≡ takes z d ++ rest_takes (binary_stratum o) (operated o e) in
-      (d, operated o e, h.1.0, r, (h.1.1, refl, h.1.3, h.1.5, h.1.6), ap (λ z. node z (Binary d sign o e)) (first_same t d false (binary_stratum o - 1) at h.1.0 h.0 h.1.4), subst Q (sym q) refl)
+      let Q : ℕ → Type 0 = λ z. takes (binary_stratum o) (node t (Binary d sign o e)) ≡ takes z d ++ rest_takes (binary_stratum o) (operated sign o e) in
+      (d, operated sign o e, h.1.0, r, (h.1.1, refl, h.1.3, h.1.5, h.1.6), ap (λ z. node z (Binary d sign o e)) (first_same t d false (binary_stratum o - 1) at h.1.0 h.0 h.1.4), subst Q (sym q) refl)
 
   rested_asked : (t : Token) (c d e : Tree) (p : Bool) (j at to : ℕ) → tighter j ≡ 21 → Reads ts S p j (node t (Conditional c d e)) at to → Rested p j (node t (Conditional c d e)) at to
   rested_asked t c d e p j at to q h =
@@ -188,7 +189,7 @@ module _ (ts : List Token) (S : ℕ → ℕ → ℕ → Type 0) (weak : (low j k
         | inl same ↦
             let P : ℕ → Type 0 = λ z. Rested p z (node t (Binary d sign o e)) at to in
             let Q : ℕ → Type 0 = λ z. Reads ts S p z (node t (Binary d sign o e)) at to in
-            subst P same (rested_binary t d o e p at to (subst Q (sym same) h))
+            subst P same (rested_binary t d sign o e p at to (subst Q (sym same) h))
         | inr lt ↦ rested_lower t (Binary d sign o e) p j at to six (below_by (binary_stratum o) j lt (stratum_gap o)) h
       ]
   rested (node t (Conditional c d e)) p j at to six h =

@@ -1,6 +1,6 @@
 use Rattle.std.proofs.Common.{arith, sym}
 use Rattle.stan_model_grammar.specs.declared.token.TokenKind.TheVariants as kinds
-use Rattle.stan_expr_law.proofs.InsideLemmas.{is_inside}
+use Rattle.stan_expr_rules.proofs.InsideLemmas.{is_inside}
 use Rattle.stan_expr_greedy.proofs.Reading.{after_is}
 use Rattle.stan_expr.proofs.bodies.body.Goals as goal
 

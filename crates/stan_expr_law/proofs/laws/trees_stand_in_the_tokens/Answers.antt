@@ -1,4 +1,4 @@
-use Rattle.stan_expr_law.proofs.InsideLemmas.{tree_inside}
+use Rattle.stan_expr_rules.proofs.InsideLemmas.{tree_inside}
 use Rattle.stan_expr_law.proofs.laws.trees_stand_in_the_tokens.Goals as goal
 
 pub returns : goal.returns
