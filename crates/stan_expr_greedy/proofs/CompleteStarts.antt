@@ -9,12 +9,11 @@ use Rattle.stan_model_grammar.specs.declared.operators.BinaryOperator.TheVariant
 use Rattle.stan_model_grammar.specs.declared.operators.Fixity.{Fixity}
 use Rattle.stan_model_grammar.specs.declared.operators.Fixity.TheVariants as fixities
 use Rattle.stan_model_grammar.specs.declared.operators.Leaf.{Leaf}
-use Rattle.stan_model_grammar.specs.declared.operators.Leaf.TheVariants as leaves
 use Rattle.stan_model_grammar.specs.declared.operators.PrefixOperator.{PrefixOperator}
 use Rattle.stan_model_grammar.specs.declared.token.Token.{Token}
 use Rattle.stan_model_grammar.specs.declared.token.TokenKind.{TokenKind}
 use Rattle.stan_model_grammar.specs.declared.token.TokenKind.TheVariants as kinds
-use Rattle.stan_model_grammar.specs.Strata.{kind_at, leaf_of, leaf_low, prefix_of, binary_stratum, fixity, tighter, right_side, is_exit}
+use Rattle.stan_model_grammar.specs.Strata.{kind_at, leaf_of, prefix_of, binary_stratum, fixity, tighter, right_side, is_exit}
 use Rattle.stan_model_grammar.specs.Trees.{TypeTree, Tree, Items, node, Form, Single, Brackets, Array, IsSet, Empty, Exit, New, Match, Closure, Arrow, Text, Post, Prefix, Assignment, Chain, Binary, Conditional}
 use Rattle.stan_model_grammar.specs.Expressions.{is_assignable, Is, Stands, Forms}
 use Rattle.stan_expr_rules.proofs.InsideLemmas.{is_inside}
@@ -22,7 +21,7 @@ use Rattle.stan_expr_rules.specs.Parse.{stands_arrow, is_arrow}
 use Rattle.stan_expr_rules.proofs.Greedy.{Near, Greedy, leaf_is_none}
 use Rattle.stan_expr_greedy.proofs.Reading.{nothing_is}
 use Rattle.stan_expr_greedy.proofs.Computes.{none_of}
-use Rattle.stan_expr_greedy.proofs.SoundTables.{stratum_bounds}
+use Rattle.stan_expr_greedy.proofs.SoundTables.{stratum_bounds, leaf_low_small}
 use Rattle.stan_expr_greedy.proofs.Begins.{clash}
 use Rattle.stan_expr_greedy.proofs.CompleteParts.{get_some}
 
@@ -53,10 +52,6 @@ tighter_in j lo =
       | inl is ↦ let low : tighter j ≡ 21 = rw is.0 refl in (omega arith, omega arith)
       | inr other ↦ let low : tighter j ≡ j - 1 = rw other.0 refl in (omega arith, omega arith)
     ]
-
-leaf_low_in : (leaf : Leaf) → leaf_low leaf ≤ 1
-leaf_low_in leaves.Static = omega arith
-leaf_low_in leaf = omega arith
 
 -- what stands alone, and what may be assigned to or appended to
 abbrev pub is_atom : Form → Bool
@@ -142,7 +137,7 @@ module _ (ts : List Token) where
   atom_of_zero p f at to h = refl
 
   pub atom_stops : (f : Form) (p : Bool) (k at to : ℕ) → is_atom f ≡ true → Forms ts (Near ts) p k f at to → Near ts 1 k to
-  atom_stops (Single leaf) p k at to a h = λ le. h.2 (omega (arith, leaf_low_in leaf))
+  atom_stops (Single leaf) p k at to a h = λ le. h.2 (omega (arith, leaf_low_small leaf))
   atom_stops (Brackets e) p k at to a h = h.1
   atom_stops (Array styles.Brackets es) p k at to a h = h.2
   atom_stops (Array styles.Array es) p k at to a h = h.3

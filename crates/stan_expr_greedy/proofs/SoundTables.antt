@@ -4,13 +4,19 @@ use Rattle.stan_model_grammar.specs.declared.operators.BinaryOperator.{BinaryOpe
 use Rattle.stan_model_grammar.specs.declared.operators.BinaryOperator.TheVariants as binaries
 use Rattle.stan_model_grammar.specs.declared.operators.Fixity.{Fixity}
 use Rattle.stan_model_grammar.specs.declared.operators.Fixity.TheVariants as fixities
+use Rattle.stan_model_grammar.specs.declared.operators.Leaf.{Leaf}
+use Rattle.stan_model_grammar.specs.declared.operators.Leaf.TheVariants as leaves
 use Rattle.stan_model_grammar.specs.declared.operators.PrefixOperator.{PrefixOperator}
 use Rattle.stan_model_grammar.specs.declared.operators.PrefixOperator.TheVariants as prefixes
 use Rattle.stan_model_grammar.specs.declared.token.TokenKind.{TokenKind}
 use Rattle.stan_model_grammar.specs.declared.token.TokenKind.TheVariants as kinds
-use Rattle.stan_model_grammar.specs.Strata.{joins, joins_operated, joins_assigned, joins_alone, double_colon, question, binary_at, binary_stratum, fixity, tighter, right_side, prefix_stratum, assignment_at}
+use Rattle.stan_model_grammar.specs.Strata.{leaf_low, joins, joins_operated, joins_assigned, joins_alone, double_colon, question, binary_at, binary_stratum, fixity, tighter, right_side, prefix_stratum, assignment_at}
 
--- ---- strata of operators
+-- ---- strata
+
+pub leaf_low_small : (leaf : Leaf) → leaf_low leaf ≤ 1
+leaf_low_small leaves.Static = omega arith
+leaf_low_small leaf = omega arith
 
 pub stratum_bounds : (o : BinaryOperator) → (6 ≤ binary_stratum o) × (binary_stratum o ≤ 28)
 stratum_bounds binaries.Power = (omega arith, omega arith)

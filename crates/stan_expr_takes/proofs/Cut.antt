@@ -4,8 +4,6 @@ use Rattle.std.specs.Prelude.{slice_get}
 use Rattle.std.specs.List.{fold}
 use Rattle.std.proofs.lemmas.Bool.{cases_lt}
 use Rattle.stan_model_grammar.specs.declared.operators.ArrayStyle.TheVariants as styles
-use Rattle.stan_model_grammar.specs.declared.operators.Leaf.{Leaf}
-use Rattle.stan_model_grammar.specs.declared.operators.Leaf.TheVariants as leaves
 use Rattle.stan_model_grammar.specs.declared.operators.BinaryOperator.{BinaryOperator}
 use Rattle.stan_model_grammar.specs.declared.operators.BinaryOperator.TheVariants as binaries
 use Rattle.stan_model_grammar.specs.declared.operators.AssignmentOperator.{AssignmentOperator}
@@ -21,25 +19,14 @@ use Rattle.stan_expr_rules.proofs.InsideLemmas.{may_goes, alternatives_go, may_t
 use Rattle.stan_expr_rules.proofs.Greedy.{J, Near, Greedy}
 use Rattle.stan_expr_law.proofs.Spelled.{Free}
 use Rattle.stan_expr_greedy.proofs.Complete.{one_is_picked}
+use Rattle.stan_expr_greedy.proofs.SoundTables.{leaf_low_small, stratum_bounds}
 use Rattle.stan_expr_takes.proofs.TakesPatterns.{some_greedy}
 
 -- ---- a tree over tokens that are the same up to its end
 
-leaf_low_small : (l : Leaf) → leaf_low l ≤ 1
-leaf_low_small leaves.Static = omega arith
-leaf_low_small _ = omega arith
-
-pub stratum_low : (o : BinaryOperator) → 6 ≤ binary_stratum o
-stratum_low binaries.Power = omega arith
-stratum_low _ = omega arith
-
 pub binary_some : (o : BinaryOperator) → 1 ≤ binary_size o
 binary_some binaries.Elvis = omega arith
 binary_some _ = omega arith
-
-pub binary_few : (o : BinaryOperator) → binary_size o ≤ 2
-binary_few binaries.Elvis = omega arith
-binary_few _ = omega arith
 
 pub assignment_some : (o : AssignmentOperator) → 1 ≤ assignment_size o
 assignment_some assignments.Reference = omega arith
@@ -249,7 +236,7 @@ module _ (ts us : List Token) (S T : ℕ → ℕ → ℕ → Type 0) (m : ℕ)
         (h.0, h.1, h.2, h.3, reads_cut e false (tighter j) at h.0 (omega (arith, g)) h.4, steps_cut ss (operation j) h.0 to le h.5, stop_far j k to (omega (arith, h.1)) le h.6)
     form_cut (Binary d sign o e) p k at to le lt h =
         let i = reads_inside ts S e false (right_side (fixity o) (binary_stratum o)) h.1 to h.6 in
-        let low = stratum_low o in
+        let low = (stratum_bounds o).0 in
         (h.0, h.1, h.2, h.3, reads_cut d false (binary_stratum o - 1) at h.0 (omega (arith, i.0, h.5.1)) h.4, operates sign o h.0 h.1 (omega (arith, i.0)) h.5, reads_cut e false (right_side (fixity o) (binary_stratum o)) h.1 to le h.6, stop_far (binary_stratum o + 1) k to (omega (arith, low)) le h.7)
     form_cut (Conditional c d e) p k at to le lt h =
         let x = tree_rises d (h.0 + 1) h.1 h.5 in
@@ -481,9 +468,6 @@ shorter ts p k g t at to end lo hi h i lt =
 -- A greedy tree is at least as long as any tree of its stratum from the same place.
 pub longest_of : (ts : List Token) (p : Bool) (k : ℕ) (g t : Tree) (at to end : ℕ) → 5 ≤ k → k ≤ loosest → Greedy ts p k g at to → Reads ts Free p k t at end → end ≤ to
 longest_of ts p k g t at to end lo hi h i = elim (cases_lt to end) [ inl lt ↦ absurd (shorter ts p k g t at to end lo hi h i lt) | inr le ↦ le ]
-
-pub longest : (ts : List Token) (k : ℕ) (g t : Tree) (at to end : ℕ) → 5 ≤ k → k ≤ loosest → Greedy ts false k g at to → Reads ts Free false k t at end → end ≤ to
-longest ts k g t at to end lo hi h i = longest_of ts false k g t at to end lo hi h i
 
 -- Up to an end there is one place.
 pub exact_end : (ts : List Token) (p : Bool) (k : ℕ) (g t : Tree) (at to end : ℕ) → 5 ≤ k → k ≤ loosest → Greedy ts p k g at to → Reads ts Free p k t at end → IsEnd ts end → to ≡ end

@@ -14,9 +14,10 @@ use Rattle.stan_expr_rules.proofs.InsideLemmas.{stands_kind, reads_inside, items
 use Rattle.stan_expr_law.proofs.SizeLemmas.{captures_are_size, steps_are_size}
 use Rattle.stan_expr_rules.proofs.Greedy.{J, Greedy}
 use Rattle.stan_expr_law.proofs.Spelled.{Free}
-use Rattle.stan_expr_takes.proofs.Cut.{stratum_low}
+use Rattle.stan_expr_greedy.proofs.SoundTables.{stratum_bounds, leaf_low_small}
+use Rattle.stan_expr_greedy.proofs.Computes.{one_token}
 use Rattle.stan_expr_takes.proofs.TakesLists.{more_before, more_after, more_is, Best, best_map, best_pad, best_cons, best_sized, best_then, same_then}
-use Rattle.stan_expr_takes.proofs.TakesStarts.{clash, one_token, may_same, return_same, body_same}
+use Rattle.stan_expr_takes.proofs.TakesStarts.{clash, may_same, return_same, body_same}
 use Rattle.stan_expr_takes.proofs.TakesKinds.{N, closes, suffix_joins, class_joins}
 use Rattle.stan_expr_takes.proofs.TakesEnds.{fenced_ends, suffixes_longest, parts_end}
 use Rattle.stan_expr_takes.proofs.TakesItems.{All, some_same, right_most, enclosed_most, fenced_most, arguments_most, suffixes_most, parts_most}
@@ -109,10 +110,6 @@ no_mark (Array styles.Array es) e = omega arith
 no_mark (Array styles.List es) e = omega arith
 no_mark f e = omega arith
 
-low_small : (l : Leaf) → leaf_low l ≤ 1
-low_small leaves.Static = omega arith
-low_small _ = omega arith
-
 module _ (ts : List Token) where
   abbrev Leads : ℕ → ℕ
   Leads at = leads (kind_at ts at) (kind_at ts (at + 1))
@@ -146,7 +143,7 @@ module _ (ts : List Token) where
     form_leads (Prefix o e) at to h = absurd (omega (arith, h.0))
     form_leads (Assignment target o e) at to h = absurd (omega (arith, h.2))
     form_leads (Chain j e ss) at to h = absurd (omega (arith, h.1, h.2))
-    form_leads (Binary d sign o e) at to h = (let low = stratum_low o in absurd (omega (arith, low, h.2)))
+    form_leads (Binary d sign o e) at to h = (let low = (stratum_bounds o).0 in absurd (omega (arith, low, h.2)))
     form_leads (Conditional c d e) at to h = absurd (omega (arith, h.2))
 
     static_takes : (f : Form) (at to : ℕ) → Forms ts S true 0 f at to → Is ts at kinds.Static → 10 ≤ form_mark f → form_mark f ≤ 11 → (xs : List ℕ) × (form_takes 0 f ≡ 1 ∷ xs)
@@ -205,7 +202,7 @@ module _ (ts : List Token) where
       simple_of : (t : Token) (f : Form) (at to : ℕ) → Reads ts S true 4 (node t f) at to → Operand t f at to
       simple_of t (New c es) at to h = inl (c, es, refl, h.1)
       simple_of t (Post e ss) at to h = inr (inr (simple_post ts S weak t e ss at to h))
-      simple_of t (Single leaf) at to h = inr (inr (simple_atom ts S weak t (Single leaf) at to (omega arith) (drop (leaf_low leaf) 4 to (low_small leaf) h.1.2) h))
+      simple_of t (Single leaf) at to h = inr (inr (simple_atom ts S weak t (Single leaf) at to (omega arith) (drop (leaf_low leaf) 4 to (leaf_low_small leaf) h.1.2) h))
       simple_of t (Brackets e) at to h = inr (inr (simple_atom ts S weak t (Brackets e) at to (omega arith) h.1.1 h))
       simple_of t (Array styles.Brackets es) at to h = inr (inr (simple_atom ts S weak t (Array styles.Brackets es) at to (omega arith) h.1.2 h))
       simple_of t (Array styles.Array es) at to h = inr (inr (simple_atom ts S weak t (Array styles.Array es) at to (omega arith) h.1.3 h))
@@ -220,7 +217,7 @@ module _ (ts : List Token) where
       simple_of t (Prefix o e) at to h = absurd (omega (arith, h.1.0))
       simple_of t (Assignment target o e) at to h = absurd (omega (arith, h.1.2))
       simple_of t (Chain j e ss) at to h = absurd (omega (arith, h.1.1, h.1.2))
-      simple_of t (Binary d sign o e) at to h = let low = stratum_low o in absurd (omega (arith, low, h.1.2))
+      simple_of t (Binary d sign o e) at to h = let low = (stratum_bounds o).0 in absurd (omega (arith, low, h.1.2))
       simple_of t (Conditional c d e) at to h = absurd (omega (arith, h.1.2))
 
   -- ---- stops

@@ -13,9 +13,10 @@ use Rattle.stan_expr_rules.proofs.InsideLemmas.{stands_kind, reads_inside, items
 use Rattle.stan_expr_law.proofs.SizeLemmas.{reads_size, items_are_size, arguments_are_size, steps_are_size}
 use Rattle.stan_expr_rules.proofs.Greedy.{Greedy}
 use Rattle.stan_expr_law.proofs.Spelled.{Free}
+use Rattle.stan_expr_greedy.proofs.Computes.{one_token}
 use Rattle.stan_expr_takes.proofs.Cut.{longest_of, binary_some}
 use Rattle.stan_expr_takes.proofs.TakesLists.{more_before, more_after, more_is, Best, best_map, best_cons, best_sized, same_then, best_then}
-use Rattle.stan_expr_takes.proofs.TakesStarts.{clash, one_token, no_start, may_same}
+use Rattle.stan_expr_takes.proofs.TakesStarts.{clash, no_start, may_same}
 use Rattle.stan_expr_takes.proofs.TakesKinds.{N, closes, follows, Closes, Follows, head_same, head_goes, item_unclosed, further_of, follow_after, other_not, part_of, step_mark, marked, operation_of}
 use Rattle.stan_expr_takes.proofs.TakesEnds.{tree_ends_at, item_ends, further_ends, fenced_ends, reference_same, element_not_keyed, keyed_not_element, no_conditions, uncalled}
 
@@ -38,10 +39,6 @@ arrow_same false true h = absurd cc
 
 pub some_same : {A : Type 0} (x : Option A) (a b : A) → x ≡ Some a → x ≡ Some b → a ≡ b
 some_same {A} x a b h i = let e : (let s : A → Option A = Some in s a ≡ s b) = sym h ∙ i in cc
-
-pub stratum_high : (o : BinaryOperator) → binary_stratum o ≤ 28
-stratum_high binaries.Power = omega arith
-stratum_high _ = omega arith
 
 tighter_range : (o : BinaryOperator) → (5 ≤ tighter (binary_stratum o)) × (tighter (binary_stratum o) ≤ loosest)
 tighter_range binaries.Elvis = (omega arith, omega arith)

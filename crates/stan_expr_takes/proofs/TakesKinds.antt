@@ -12,7 +12,8 @@ use Rattle.stan_model_grammar.specs.Expressions.{ItemSort, argument, element, ex
 use Rattle.stan_expr_rules.proofs.InsideLemmas.{stands_kind, visibility_goes, may_type_goes, may_goes}
 use Rattle.stan_expr_rules.proofs.Greedy.{J, Near}
 use Rattle.stan_expr_law.proofs.Spelled.{Free}
-use Rattle.stan_expr_takes.proofs.TakesStarts.{clash, starts, one_token, begins, may_same, visibility_same, may_type_same, typed, type_begins}
+use Rattle.stan_expr_greedy.proofs.Computes.{one_token}
+use Rattle.stan_expr_takes.proofs.TakesStarts.{clash, starts, begins, may_same, visibility_same, may_type_same, typed, type_begins}
 
 -- ---- what closes a list, and what follows an item
 

@@ -32,10 +32,6 @@ none_split i b j lo hi = let e : j - i ≡ (b - i) + (j - b) = omega arith in ap
 abbrev pub Best : {A : Type 0} → A → A → ℕ → ℕ → List ℕ → List ℕ → Type 0
 Best a b m n xs ys = ((a ≡ b) × (m ≡ n)) ⊎ More xs ys
 
-pub best_is : {A : Type 0} (a b : A) (m n : ℕ) (xs ys us vs : List ℕ) → xs ≡ us → ys ≡ vs → Best a b m n us vs → Best a b m n xs ys
-best_is a b m n xs ys us vs e f (inl h) = inl h
-best_is a b m n xs ys us vs e f (inr h) = inr (more_is xs ys us vs e f h)
-
 -- the same one part around them
 pub best_map : {A C : Type 0} (make : A → C) (a b : A) (m n to end : ℕ) (xs ys : List ℕ) → (m ≡ n → to ≡ end) → Best a b m n xs ys → Best (make a) (make b) to end xs ys
 best_map make a b m n to end xs ys ends (inl h) = inl (ap make h.0, ends h.1)

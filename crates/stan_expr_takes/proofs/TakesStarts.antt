@@ -10,8 +10,9 @@ use Rattle.stan_model_grammar.specs.declared.token.TokenKind.{TokenKind}
 use Rattle.stan_model_grammar.specs.declared.token.TokenKind.TheVariants as kinds
 use Rattle.stan_model_grammar.specs.Strata.{kind_at, leaf_of, prefix_of, binary_stratum, tighter, names_type, is_exit, visibility_of}
 use Rattle.stan_model_grammar.specs.Trees.{TypeTree, Nullable, Union, Tree, node, Form, Single, Brackets, Array, IsSet, Empty, Exit, New, Match, Closure, Arrow, Text, Post, Prefix, Assignment, Chain, Binary, Conditional, Body, Held, Read}
-use Rattle.stan_model_grammar.specs.Expressions.{IsMatched, Is, Stands, May, MayBeVisible, TypeName, Alternatives, Types, MayBeTyped, MayReturn, Reads, Forms, Bodies}
+use Rattle.stan_model_grammar.specs.Expressions.{IsMatched, Is, May, MayBeVisible, TypeName, Alternatives, Types, MayBeTyped, MayReturn, Reads, Forms, Bodies}
 use Rattle.stan_expr_rules.proofs.InsideLemmas.{stands_kind}
+use Rattle.stan_expr_greedy.proofs.Computes.{one_token}
 
 -- two kinds that a table tells apart
 pub clash : (f : TokenKind → Bool) (x y : TokenKind) → x ≡ y → f x ≡ true → f y ≡ false → ⊥
@@ -60,10 +61,6 @@ typed kinds.Bar = true
 typed kind = names_type kind
 
 module _ (ts : List Token) where
-  -- one token at a place
-  pub one_token : (at : ℕ) (t u : Token) → Stands ts at t → Stands ts at u → t ≡ u
-  one_token at t u h i = let e : (let s : Token → Option Token = Some in s t ≡ s u) = sym h ∙ i in cc
-
   module _ (S : ℕ → ℕ → ℕ → Type 0) where
     mutual
       pub begins : (t : Tree) (p : Bool) (k at to : ℕ) → Reads ts S p k t at to → starts (kind_at ts at) ≡ true
@@ -127,7 +124,7 @@ module _ (ts : List Token) where
   visibility_same None (Some w) at b c h i f g = let P : ℕ → Type 0 = λ y. visibility_of (kind_at ts y) ≡ Some w in let e = subst P h i.0 in absurd (cc (e, f))
 
   pub type_name_same : (t u : Token) (at b c : ℕ) → TypeName ts t at b → TypeName ts u at c → (t ≡ u) × (b ≡ c)
-  type_name_same t u at b c h i = (one_token at t u h.0 i.0, omega (arith, h.2, i.2))
+  type_name_same t u at b c h i = (one_token ts at t u h.0 i.0, omega (arith, h.2, i.2))
 
   pub alternatives_same : (xs ys : List Token) (at b c : ℕ) → Alternatives ts xs at b → Alternatives ts ys at c → kind_at ts b ≢ kinds.Bar → kind_at ts c ≢ kinds.Bar → (xs ≡ ys) × (b ≡ c)
   alternatives_same [] [] at b c h i f g = (refl, omega (arith, h, i))
@@ -152,7 +149,7 @@ module _ (ts : List Token) where
   type_begins (Union t more) at b h = ap typed (stands_kind ts at t h.1.0) ∙ names_typed t.kind h.1.1
 
   pub types_same : (s t : TypeTree) (at b c : ℕ) → Types ts s at b → Types ts t at c → kind_at ts b ≢ kinds.Bar → kind_at ts c ≢ kinds.Bar → (s ≡ t) × (b ≡ c)
-  types_same (Nullable s t) (Nullable u v) at b c h i f g = let e = type_name_same t v (at + 1) b c h.2 i.2 in (ap₂ Nullable (one_token at s u h.0 i.0) e.0, e.1)
+  types_same (Nullable s t) (Nullable u v) at b c h i f g = let e = type_name_same t v (at + 1) b c h.2 i.2 in (ap₂ Nullable (one_token ts at s u h.0 i.0) e.0, e.1)
   types_same (Union t xs) (Union u ys) at b c h i f g =
       let e = type_name_same t u at h.0 i.0 h.1 i.1 in
       let P : ℕ → Type 0 = λ z. Alternatives ts ys z c in

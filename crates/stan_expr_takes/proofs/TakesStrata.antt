@@ -4,7 +4,6 @@ use Rattle.std.proofs.lemmas.Bool.{cases_lt}
 use Rattle.stan_model_grammar.specs.declared.operators.ArrayStyle.TheVariants as styles
 use Rattle.stan_model_grammar.specs.declared.operators.Leaf.{Leaf}
 use Rattle.stan_model_grammar.specs.declared.operators.PrefixOperator.{PrefixOperator}
-use Rattle.stan_model_grammar.specs.declared.operators.PrefixOperator.TheVariants as prefixes
 use Rattle.stan_model_grammar.specs.declared.operators.BinaryOperator.{BinaryOperator}
 use Rattle.stan_model_grammar.specs.declared.operators.BinaryOperator.TheVariants as binaries
 use Rattle.stan_model_grammar.specs.declared.operators.AssignmentOperator.{AssignmentOperator}
@@ -20,19 +19,17 @@ use Rattle.stan_expr_rules.proofs.InsideLemmas.{reads_inside, steps_go, step_ins
 use Rattle.stan_expr_law.proofs.SizeLemmas.{reads_size, steps_are_size}
 use Rattle.stan_expr_rules.specs.Parse.{first_of}
 use Rattle.stan_expr_law.proofs.Spelled.{Free}
-use Rattle.stan_expr_takes.proofs.Cut.{longest_of, stratum_low, assignment_some}
+use Rattle.stan_expr_greedy.proofs.SoundTables.{stratum_bounds, prefix_bounds}
+use Rattle.stan_expr_greedy.proofs.Computes.{one_token}
+use Rattle.stan_expr_takes.proofs.Cut.{longest_of, assignment_some}
 use Rattle.stan_expr_takes.proofs.TakesLists.{more_before, more_after, more_is, Best, best_map, best_pad, best_sized, best_then}
-use Rattle.stan_expr_takes.proofs.TakesStarts.{one_token, no_start, raised_true}
+use Rattle.stan_expr_takes.proofs.TakesStarts.{no_start, raised_true}
 use Rattle.stan_expr_takes.proofs.TakesKinds.{N, operation_of}
 use Rattle.stan_expr_takes.proofs.TakesItems.{All, Most, some_same, right_most, operations_most}
 use Rattle.stan_expr_takes.proofs.TakesViews.{own, narrow, tree_split, Rest, nothing, chained, operated, asked, joined, rest_takes, RestReads, rested, tighter_low, first_same}
 use Rattle.stan_expr_takes.proofs.TakesAtoms.{near_weak, free_weak, operand_most}
 
 -- ---- tables
-
-prefix_range : (o : PrefixOperator) → (5 ≤ prefix_stratum o) × (prefix_stratum o ≤ loosest)
-prefix_range prefixes.Clone = (omega arith, omega arith)
-prefix_range o = (omega arith, omega arith)
 
 side_range : (o : BinaryOperator) → (5 ≤ right_side (fixity o) (binary_stratum o)) × (right_side (fixity o) (binary_stratum o) ≤ loosest)
 side_range binaries.Power = (omega arith, omega arith)
@@ -107,7 +104,7 @@ module _ (ts : List Token) where
       form_unprefixed (Prefix o e) p k at to le h = absurd (omega (arith, le, h.0))
       form_unprefixed (Assignment target o e) p k at to le h = absurd (omega (arith, le, h.2))
       form_unprefixed (Chain j e ss) p k at to le h = absurd (omega (arith, le, h.1, h.2))
-      form_unprefixed (Binary d sign o e) p k at to le h = let low = stratum_low o in absurd (omega (arith, le, low, h.2))
+      form_unprefixed (Binary d sign o e) p k at to le h = let low = (stratum_bounds o).0 in absurd (omega (arith, le, low, h.2))
       form_unprefixed (Conditional c d e) p k at to le h = absurd (omega (arith, le, h.2))
 
     abbrev TargetReads : Target → ℕ → ℕ → Type 0
@@ -133,7 +130,7 @@ module _ (ts : List Token) where
       operand_of t (Assignment target o e) p at to h =
           inr (target, assigned o e, h.1.0, h.1.4, (h.1.1, h.1.5, h.1.6), ap (λ z. node z (Assignment target o e)) (first_same ts S weak t target true 4 at h.1.0 h.0 h.1.4), refl)
       operand_of t (Chain j e ss) p at to h = absurd (omega (arith, h.1.1, h.1.2))
-      operand_of t (Binary d sign o e) p at to h = let low = stratum_low o in absurd (omega (arith, low, h.1.2))
+      operand_of t (Binary d sign o e) p at to h = let low = (stratum_bounds o).0 in absurd (omega (arith, low, h.1.2))
       operand_of t (Conditional c d e) p at to h = absurd (omega (arith, h.1.2))
       operand_of t (Post e ss) p at to h = inr (lower_target t (Post e ss) p at to (omega arith) h)
       operand_of t (New class es) p at to h = inr (lower_target t (New class es) p at to (omega arith) h)
@@ -191,7 +188,7 @@ module _ (ts : List Token) where
         let same = some_same (prefix_of (kind_at ts at)) w.0 o w.3.1 v.3.1 in
         let P : PrefixOperator → Type 0 = λ z. Reads ts Free false (prefix_stratum z) w.1 (at + 1) end in
         let Q : PrefixOperator → Type 0 = λ z. g ≡ Prefix z w.1 in
-        let range = prefix_range o in
+        let range = prefix_bounds o in
         prefix_is t u f g to end o v.1 w.1 v.2 (subst Q same w.2) s
         (right_most ts n ih false (prefix_stratum o) v.1 w.1 (size v.1) (size w.1) (at + 1) to end range.0 range.1 (omega arith) v.3.2 (subst P same w.3.2) (omega (arith, le)))
 

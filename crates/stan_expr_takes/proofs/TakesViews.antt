@@ -13,8 +13,10 @@ use Rattle.stan_model_grammar.specs.Trees.{Tree, node, Form, Single, Brackets, A
 use Rattle.stan_model_grammar.specs.Expressions.{suffix, operation, IsSomeStep, Is, Stands, Operates, Reads, Forms, Repeats}
 use Rattle.stan_model_grammar.specs.Takes.{size, steps_size, zeros, none, takes, form_takes, steps_take}
 use Rattle.stan_expr_rules.specs.Parse.{first_of}
+use Rattle.stan_expr_greedy.proofs.SoundTables.{stratum_other}
+use Rattle.stan_expr_greedy.proofs.Computes.{one_token}
 use Rattle.stan_expr_takes.proofs.TakesLists.{none_split}
-use Rattle.stan_expr_takes.proofs.TakesStarts.{one_token, raised}
+use Rattle.stan_expr_takes.proofs.TakesStarts.{raised}
 use Rattle.stan_expr_takes.proofs.TakesKinds.{operation_of}
 
 -- the stratum of a production, behind which its parts take nothing
@@ -78,9 +80,6 @@ posted e (step x xs) = node (first_of e) (Post e (step x xs))
 
 -- ---- strata and the ones before
 
-tighter_last : tighter 23 ≡ 21
-tighter_last = refl
-
 pub tighter_is : (j : ℕ) → ((j ≡ 23) × (tighter j ≡ 21)) ⊎ ((j ≢ 23) × (tighter j ≡ j - 1))
 tighter_is j = elim (eqb_tells j 23) [
   | inl same ↦ inl (same.1, ap tighter same.1)
@@ -89,10 +88,6 @@ tighter_is j = elim (eqb_tells j 23) [
 
 pub tighter_low : (j : ℕ) → 6 ≤ j → (5 ≤ tighter j) × (tighter j < j)
 tighter_low j lo = elim (tighter_is j) [ inl h ↦ (omega (arith, h.1), omega (arith, h.0, h.1)) | inr h ↦ (omega (arith, h.1), omega (arith, h.1)) ]
-
-stratum_gap : (o : BinaryOperator) → binary_stratum o ≢ 22
-stratum_gap binaries.Power h = omega arith
-stratum_gap o h = omega arith
 
 pub tighter_side : (o : BinaryOperator) → fixity o ≢ fixities.Left → tighter (binary_stratum o) ≡ binary_stratum o - 1
 tighter_side binaries.Elvis h = absurd (h refl)
@@ -151,7 +146,7 @@ module _ (ts : List Token) (S : ℕ → ℕ → ℕ → Type 0) (weak : (low j k
 
   chain_gap : (ss : Steps) (j at to : ℕ) → IsSomeStep ss → Repeats ts S (operation j) ss at to → j ≢ 22
   chain_gap no_step j at to some h e = some
-  chain_gap (step x xs) j at to some h e = let v = operation_of ts S j x at h.0 h.1 in stratum_gap v.1 (v.5.0 ∙ e)
+  chain_gap (step x xs) j at to some h e = let v = operation_of ts S j x at h.0 h.1 in stratum_other v.1 (v.5.0 ∙ e)
 
   rested_chain : (t : Token) (e : Tree) (ss : Steps) (p : Bool) (j at to : ℕ) → 6 ≤ j → Reads ts S p j (node t (Chain j e ss)) at to → Rested p j (node t (Chain j e ss)) at to
   rested_chain t e ss p j at to six h =
@@ -190,7 +185,7 @@ module _ (ts : List Token) (S : ℕ → ℕ → ℕ → Type 0) (weak : (low j k
             let P : ℕ → Type 0 = λ z. Rested p z (node t (Binary d sign o e)) at to in
             let Q : ℕ → Type 0 = λ z. Reads ts S p z (node t (Binary d sign o e)) at to in
             subst P same (rested_binary t d sign o e p at to (subst Q (sym same) h))
-        | inr lt ↦ rested_lower t (Binary d sign o e) p j at to six (below_by (binary_stratum o) j lt (stratum_gap o)) h
+        | inr lt ↦ rested_lower t (Binary d sign o e) p j at to six (below_by (binary_stratum o) j lt (stratum_other o)) h
       ]
   rested (node t (Conditional c d e)) p j at to six h =
       elim (cases_lt 23 j) [
