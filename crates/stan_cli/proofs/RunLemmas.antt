@@ -1,5 +1,5 @@
 -- The stages of a run, joined.
-use Rattle.std.proofs.Common.{◌≡◌, ℕ, ◌≤◌, List, length, take, Some, None, Err, refl, sym, ap, subst, ◌∙◌, arith}
+use Rattle.std.proofs.Common.{◌≡◌, ℕ, ◌≤◌, ◌<◌, List, length, take, Some, None, Result, Ok, Err, refl, sym, ap, subst, ◌∙◌, arith}
 use Rattle.std.proofs.Common.{◌-◌, drop, map, length-drop}
 use Rattle.std.specs.List.{zip}
 use Rattle.std.proofs.lemmas.List.{length-map, take_all, drop-map}
@@ -8,44 +8,79 @@ use Rattle.stan_analyse.proofs.ReadingLemmas.{one_readings}
 use Rattle.stan_cli.specs.Raw.{raw_text}
 use Rattle.stan_cli.specs.Report.{IsReport, faults_of_project}
 use Rattle.stan_outside.specs.Contents.{Contents}
-use Rattle.stan_cli.specs.Project.{chosen_files, paths_of, sources_of, most_files, excess_from}
+use Rattle.stan_cli.specs.Project.{chosen_files, paths_of, sources_of, most_files, excess_from, reads_until}
+use Rattle.stan_outside.specs.Outside.{Rose, RoseBy}
+use Rattle.stan_cli.specs.declared.run.Done.{Done}
 use Rattle.stan_cli.specs.declared.refusal.Refusal.{Refusal}
 use Rattle.stan_cli.specs.declared.refusal.Refusal.TheVariants.{BadWords, Limit, TreeFault, SinkFault, OutOfMemory}
 use Rattle.stan_cli.specs.declared.refusal.Which.TheVariants.{Files, Bytes}
-use Rattle.stan_cli.specs.Sources.{IsReadRefusal}
+use Rattle.stan_cli.specs.Seen.{SeenTree, SeenSink, Seen}
+use Rattle.stan_cli.specs.Sources.{IsReadRefusal, IsListRefusal, ReadsWithin}
 use Rattle.stan_cli.specs.Words.{refused_part}
-use Rattle.stan_cli.specs.Run.{IsProjectRefusal, Comes, files_of, KeepsLimits}
-use Rattle.stan_cli.proofs.SourceLemmas.{Rose-later}
+use Rattle.stan_cli.specs.Run.{IsProjectRefusal, IsListed, IsUntouched, Reports, Comes, files_of, KeepsLimits}
+use Rattle.stan_cli.proofs.SourceLemmas.{Rose-later, RoseBy-none, all_read}
 
 -- a refusal to read, after the listing
-pub project_refusal-read : (never never_mid : Type 0) (before mid after : ℕ) (tells tells_mid : Type 0) (sources : List (List ℕ)) (files : List (List ℕ × List ℕ)) (refusal : Refusal)
-    → (never → never_mid) → before ≤ mid → (tells → tells_mid) → (tells → sources ≡ sources_of files) → (tells → length files ≤ most_files)
-    → IsReadRefusal never_mid mid after tells_mid sources refusal → IsProjectRefusal never before after tells files refusal
-project_refusal-read never never_mid before mid after tells tells_mid sources files (BadWords part) n le t same few h = h
-project_refusal-read never never_mid before mid after tells tells_mid sources files (Limit Files counted) n le t same few h = absurd h
-project_refusal-read never never_mid before mid after tells tells_mid sources files (Limit Bytes counted) n le t same few h =
-    λ told. (few told, subst (λ ss. excess_from 0 ss ≡ Some counted) (same told) (h (t told)))
-project_refusal-read never never_mid before mid after tells tells_mid sources files TreeFault n le t same few h = (Rose-later before mid after le h.0, λ x. h.1 (n x))
-project_refusal-read never never_mid before mid after tells tells_mid sources files SinkFault n le t same few h = h
-project_refusal-read never never_mid before mid after tells tells_mid sources files OutOfMemory n le t same few h = tt
+module _ (old mid : SeenTree) (sources : List (List ℕ)) (files : List (List ℕ × List ℕ)) (never : old.never_fails → mid.never_fails) (le : old.faults ≤ mid.faults) (last : mid.faults_after ≡ old.faults_after)
+    (tells : old.tells → mid.tells) (same : old.tells → sources ≡ sources_of files) (few : old.tells → length files ≤ most_files) (unread : mid.reads ≡ old.reads) (reads : mid.reads_after ≡ old.reads_after) where
+  rose_from : (number : ℕ) → RoseBy number mid.reads mid.reads_after → RoseBy number old.reads old.reads_after
+  rose_from number h = subst (λ after. RoseBy number old.reads after) reads (subst (λ before. RoseBy number before mid.reads_after) unread h)
+
+  fault_from : Rose mid.faults mid.faults_after → Rose old.faults old.faults_after
+  fault_from h = subst (λ after. Rose old.faults after) last (Rose-later old.faults mid.faults mid.faults_after le h)
+
+  within_from : ReadsWithin sources mid → ReadsWithin (sources_of files) old
+  within_from h told = let w = h (tells told) in (w.0, subst (λ ss. w.0 ≤ reads_until 0 ss) (same told) w.1, rose_from w.0 w.2)
+
+  pub project_refusal-read : (refusal : Refusal) → IsReadRefusal mid sources refusal → IsProjectRefusal old files refusal
+  project_refusal-read (BadWords part) h = h
+  project_refusal-read (Limit Files counted) h = absurd h
+  project_refusal-read (Limit Bytes counted) h = λ told.
+      let both = h (tells told) in
+      (few told, subst (λ ss. excess_from 0 ss ≡ Some counted) (same told) both.0, subst (λ ss. RoseBy (reads_until 0 ss) old.reads old.reads_after) (same told) (rose_from (reads_until 0 sources) both.1))
+  project_refusal-read TreeFault h = (fault_from h.0, λ x. h.1 (never x), within_from h.2)
+  project_refusal-read SinkFault h = h
+  project_refusal-read OutOfMemory h = within_from h
+
+-- a refusal to list
+pub project_refusal-list : (tree : SeenTree) (files : List (List ℕ × List ℕ)) (number : ℕ) → number ≡ length files → tree.reads_after ≡ tree.reads → (refusal : Refusal) → IsListRefusal tree number refusal → IsProjectRefusal tree files refusal
+project_refusal-list tree files number e same (BadWords part) h = h
+project_refusal-list tree files number e same (Limit Files counted) h = (same, λ told. let both = h told in (both.0 ∙ e, subst (λ n. most_files < n) e both.1))
+project_refusal-list tree files number e same (Limit Bytes counted) h = absurd h
+project_refusal-list tree files number e same TreeFault h = (h.0, h.1, λ told. (0, omega arith, RoseBy-none tree.reads tree.reads_after same))
+project_refusal-list tree files number e same SinkFault h = h
+project_refusal-list tree files number e same OutOfMemory h = λ told. (0, omega arith, RoseBy-none tree.reads tree.reads_after same)
 
 -- a refusal before anything is written
-pub comes-project : (words : List (List ℕ)) (tells : Type 0) (contents : Contents) (before after : ℕ) (never : Type 0) (sink_tells : Type 0) (written : List ℕ) (sink_faults : ℕ) (refusal : Refusal)
-    → refused_part words ≡ None → IsProjectRefusal never before after tells (files_of words contents) refusal → Comes words tells contents before after never sink_tells written written sink_faults sink_faults (Err refusal)
-comes-project words tells contents before after never sink_tells written sink_faults (BadWords part) none h = absurd h
-comes-project words tells contents before after never sink_tells written sink_faults (Limit Files counted) none h = (none, h, λ _. refl)
-comes-project words tells contents before after never sink_tells written sink_faults (Limit Bytes counted) none h = (none, h, λ _. refl)
-comes-project words tells contents before after never sink_tells written sink_faults TreeFault none h = (none, h.0, h.1, λ _. refl)
-comes-project words tells contents before after never sink_tells written sink_faults SinkFault none h = absurd h
-comes-project words tells contents before after never sink_tells written sink_faults OutOfMemory none h = (none, λ _. refl)
+pub comes-project : (words : List (List ℕ)) (shown : Seen) (refusal : Refusal) → IsListed words shown → IsUntouched shown.sink → IsProjectRefusal shown.tree (files_of words shown.tree.contents) refusal → Comes words shown (Err refusal)
+comes-project words shown (BadWords part) listed kept h = absurd h
+comes-project words shown (Limit Files counted) listed kept h = (listed, h, kept)
+comes-project words shown (Limit Bytes counted) listed kept h = (listed, h, kept)
+comes-project words shown TreeFault listed kept h = (listed, h, kept)
+comes-project words shown SinkFault listed kept h = absurd h
+comes-project words shown OutOfMemory listed kept h = (listed, h, kept)
 
 -- nothing but the folder and the words is at fault before anything is written
-pub not_sink-project : (never tells : Type 0) (before after : ℕ) (files : List (List ℕ × List ℕ)) (refusal : Refusal) → IsProjectRefusal never before after tells files refusal → refusal ≡ SinkFault → ⊥
-not_sink-project never tells before after files (BadWords part) h e = h
-not_sink-project never tells before after files (Limit which counted) h e = cc
-not_sink-project never tells before after files TreeFault h e = cc
-not_sink-project never tells before after files SinkFault h e = h
-not_sink-project never tells before after files OutOfMemory h e = cc
+pub not_sink-project : (tree : SeenTree) (files : List (List ℕ × List ℕ)) (refusal : Refusal) → IsProjectRefusal tree files refusal → refusal ≡ SinkFault → ⊥
+not_sink-project tree files (BadWords part) h e = h
+not_sink-project tree files (Limit which counted) h e = cc
+not_sink-project tree files TreeFault h e = cc
+not_sink-project tree files SinkFault h e = h
+not_sink-project tree files OutOfMemory h e = cc
+
+-- each file once, where none is left
+pub whole_read : (tree : SeenTree) (files : List (List ℕ × List ℕ)) → KeepsLimits files → RoseBy (length files) tree.reads tree.reads_after → (number : ℕ) × (number ≤ reads_until 0 (sources_of files)) × RoseBy number tree.reads tree.reads_after
+whole_read tree files limits h = (length files, omega (arith, all_read 0 (sources_of files) limits.small, length-map files (λ (file : List ℕ × List ℕ). file.1)), h)
+
+-- No file is read twice, whatever comes.
+pub reads_within : (words : List (List ℕ)) (shown : Seen) (result : Result Done Refusal) → Comes words shown result → ReadsWithin (sources_of (files_of words shown.tree.contents)) shown.tree
+reads_within words shown (Ok done) h = λ told. let reports = h.2 told in whole_read shown.tree (files_of words shown.tree.contents) reports.limits (subst (λ n. RoseBy n shown.tree.reads shown.tree.reads_after) reports.number h.1)
+reads_within words shown (Err (BadWords part)) h = λ told. (0, omega arith, RoseBy-none shown.tree.reads shown.tree.reads_after h.1.not_read)
+reads_within words shown (Err (Limit Files counted)) h = λ told. (0, omega arith, RoseBy-none shown.tree.reads shown.tree.reads_after h.1.0)
+reads_within words shown (Err (Limit Bytes counted)) h = λ told. (reads_until 0 (sources_of (files_of words shown.tree.contents)), omega arith, (h.1 told).2)
+reads_within words shown (Err TreeFault) h = h.1.2
+reads_within words shown (Err SinkFault) h = λ told. whole_read shown.tree (files_of words shown.tree.contents) (h.2 told).0 (h.2 told).1
+reads_within words shown (Err OutOfMemory) h = h.1
 
 -- the number of files, by their paths
 pub number : {X : Type 0} (xs : List X) (files : List (List ℕ × List ℕ)) (paths : List (List ℕ)) → paths ≡ paths_of files → length paths ≡ length xs → length xs ≤ most_files → length files ≤ most_files

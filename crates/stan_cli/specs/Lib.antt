@@ -7,6 +7,7 @@ pub mod Raw
 pub mod Refusal
 pub mod Report
 pub mod Run
+pub mod Seen
 pub mod Sources
 pub mod Tally
 pub mod Words

@@ -62,3 +62,8 @@ most_bytes = 268435456
 abbrev pub excess_from : ℕ → List (List ℕ) → Option ℕ
 excess_from sum [] = None
 excess_from sum (source ∷ sources) = if nat_lt most_bytes (sum + length source) then Some (sum + length source) else excess_from (sum + length source) sources
+
+-- how many sources are read until a sum passes the limit, or all of them
+abbrev pub reads_until : ℕ → List (List ℕ) → ℕ
+reads_until sum [] = 0
+reads_until sum (source ∷ sources) = if nat_lt most_bytes (sum + length source) then 1 else (1 + reads_until (sum + length source) sources)

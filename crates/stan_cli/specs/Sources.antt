@@ -6,8 +6,9 @@ use Rattle.std.specs.declared.sync.Arc.{Arc}
 use Rattle.std.specs.declared.alloc.Global.{Global}
 use Rattle.stan_model_grammar.specs.Reading.{largest_source}
 use Rattle.stan_outside.specs.Contents.{Contents}
-use Rattle.stan_cli.specs.Project.{most_files, excess_from}
-use Rattle.stan_outside.specs.Outside.{Rose}
+use Rattle.stan_cli.specs.Project.{most_files, excess_from, reads_until}
+use Rattle.stan_cli.specs.Seen.{SeenTree}
+use Rattle.stan_outside.specs.Outside.{Rose, RoseBy}
 use Rattle.stan_table.specs.declared.source.Source.{Source}
 use Rattle.stan_cli.specs.declared.refusal.Refusal.{Refusal}
 use Rattle.stan_cli.specs.declared.refusal.Refusal.TheVariants.{BadWords, Limit, TreeFault, SinkFault, OutOfMemory}
@@ -33,28 +34,32 @@ pub record KeepsTree {T : Type 0} (tells : T → Type 0) (contents : T → Conte
   pub same_faults : never_fails old → faults new ≡ faults old
   pub still_never_fails : never_fails old → never_fails new
 
+-- No file was read twice, and none behind the sum that passes the limit.
+abbrev pub ReadsWithin : List (List ℕ) → SeenTree → Type 0
+ReadsWithin sources tree = tree.tells → (number : ℕ) × (number ≤ reads_until 0 sources) × RoseBy number tree.reads tree.reads_after
+
 -- Of the folder alone: it failed, and the count of its faults rose. Want of memory is free.
-abbrev pub IsTreeRefusal : Type 0 → ℕ → ℕ → Refusal → Type 0
-IsTreeRefusal never_fails before after (BadWords part) = ⊥
-IsTreeRefusal never_fails before after (Limit which counted) = ⊥
-IsTreeRefusal never_fails before after TreeFault = Rose before after × ¬ never_fails
-IsTreeRefusal never_fails before after SinkFault = ⊥
-IsTreeRefusal never_fails before after OutOfMemory = Unit {0}
+abbrev pub IsTreeRefusal : SeenTree → Refusal → Type 0
+IsTreeRefusal tree (BadWords part) = ⊥
+IsTreeRefusal tree (Limit which counted) = ⊥
+IsTreeRefusal tree TreeFault = Rose tree.faults tree.faults_after × ¬ tree.never_fails
+IsTreeRefusal tree SinkFault = ⊥
+IsTreeRefusal tree OutOfMemory = Unit {0}
 
 -- Listing is refused besides where more files are chosen than may be.
-abbrev pub IsListRefusal : Type 0 → ℕ → ℕ → Type 0 → ℕ → Refusal → Type 0
-IsListRefusal never_fails before after tells number (Limit Files counted) = tells → (counted ≡ number) × (most_files < number)
-IsListRefusal never_fails before after tells number (Limit Bytes counted) = ⊥
-IsListRefusal never_fails before after tells number (BadWords part) = ⊥
-IsListRefusal never_fails before after tells number TreeFault = Rose before after × ¬ never_fails
-IsListRefusal never_fails before after tells number SinkFault = ⊥
-IsListRefusal never_fails before after tells number OutOfMemory = Unit {0}
+abbrev pub IsListRefusal : SeenTree → ℕ → Refusal → Type 0
+IsListRefusal tree number (Limit Files counted) = tree.tells → (counted ≡ number) × (most_files < number)
+IsListRefusal tree number (Limit Bytes counted) = ⊥
+IsListRefusal tree number (BadWords part) = ⊥
+IsListRefusal tree number TreeFault = Rose tree.faults tree.faults_after × ¬ tree.never_fails
+IsListRefusal tree number SinkFault = ⊥
+IsListRefusal tree number OutOfMemory = Unit {0}
 
--- Reading is refused besides where the bytes of all files together are more than may be.
-abbrev pub IsReadRefusal : Type 0 → ℕ → ℕ → Type 0 → List (List ℕ) → Refusal → Type 0
-IsReadRefusal never_fails before after tells sources (Limit Files counted) = ⊥
-IsReadRefusal never_fails before after tells sources (Limit Bytes counted) = tells → excess_from 0 sources ≡ Some counted
-IsReadRefusal never_fails before after tells sources (BadWords part) = ⊥
-IsReadRefusal never_fails before after tells sources TreeFault = Rose before after × ¬ never_fails
-IsReadRefusal never_fails before after tells sources SinkFault = ⊥
-IsReadRefusal never_fails before after tells sources OutOfMemory = Unit {0}
+-- Reading is refused besides where the bytes of all files together are more than may be. Then none is read behind that sum.
+abbrev pub IsReadRefusal : SeenTree → List (List ℕ) → Refusal → Type 0
+IsReadRefusal tree sources (Limit Files counted) = ⊥
+IsReadRefusal tree sources (Limit Bytes counted) = tree.tells → (excess_from 0 sources ≡ Some counted) × RoseBy (reads_until 0 sources) tree.reads tree.reads_after
+IsReadRefusal tree sources (BadWords part) = ⊥
+IsReadRefusal tree sources TreeFault = Rose tree.faults tree.faults_after × ¬ tree.never_fails × ReadsWithin sources tree
+IsReadRefusal tree sources SinkFault = ⊥
+IsReadRefusal tree sources OutOfMemory = ReadsWithin sources tree

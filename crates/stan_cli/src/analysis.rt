@@ -11,8 +11,8 @@ ghost use Rattle.stan_cli.specs.Sources.{source_bytes};
 
 use crate::raw::raw;
 use stan_analyse::PhpAnalyst;
-use stan_base::OutOfMemory;
 use stan_analyst::{FileFaults, Verdict};
+use stan_base::OutOfMemory;
 use stan_table::{Index, Source};
 use std::alloc::Global;
 use std::sync::Arc;

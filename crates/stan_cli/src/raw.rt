@@ -5,8 +5,8 @@ ghost use Rattle.stan_analyst.specs.Verdict.{fault_of};
 ghost use Rattle.stan_cli.specs.Raw.{raw_text, raw_lines, raw_line};
 ghost use Rattle.stan_cli.specs.Files.{file_of};
 
-use stan_base::OutOfMemory;
 use stan_analyst::{Fault, FileFaults};
+use stan_base::OutOfMemory;
 use std::alloc::Global;
 
 /// A line `PATH:LINE:TEXT` for each fault.

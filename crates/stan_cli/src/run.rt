@@ -2,13 +2,14 @@
 
 ghost use Rattle.std.specs.Prelude.{◌≡◌, ◌≤◌, ◌<◌, ◌↔◌, ℕ, List, map, length, string_bytes, None, Some, Err, IfOk, IfErr, IfSome, IsNone, IsSome};
 ghost use Rattle.std.specs.List.{zip};
-ghost use Rattle.stan_cli.specs.Project.{chosen_files, sources_of, most_files, excess_from};
+ghost use Rattle.stan_cli.specs.Project.{chosen_files, sources_of, most_files, excess_from, reads_until};
+ghost use Rattle.stan_cli.specs.Seen.{seen, seen_tree, seen_sink};
 ghost use Rattle.stan_cli.specs.Sources.{source_bytes, KeepsTree};
 ghost use Rattle.stan_cli.specs.Words.{refused_part};
 ghost use Rattle.stan_cli.specs.Report.{IsReport};
 ghost use Rattle.stan_cli.specs.Run.{Comes, IsProjectRefusal, files_of, KeepsLimits, AddsReport, AddsFront, HasStatus};
 ghost use Rattle.stan_cli.specs.Tally.{tally_of};
-ghost use Rattle.stan_outside.specs.Outside.{Rose};
+ghost use Rattle.stan_outside.specs.Outside.{Rose, RoseBy};
 
 use crate::analysis::report_of;
 use crate::sources::{list_chosen, read_sources};
@@ -39,7 +40,9 @@ fn read_project<T: Tree>(alloc: Global, paths: &[String], tree: &mut T) -> Resul
     ensures few { IfOk result (λ project. length project.paths.items ≤ most_files) }
     ensures each { IfOk result (λ project. length project.sources.items ≡ length project.paths.items) }
     ensures within { IfOk result (λ project. excess_from 0 (map source_bytes project.sources.items) ≡ None) }
-    ensures refused { IfErr result (λ refusal. IsProjectRefusal (T.never_fails tree.old) (T.faults tree.old) (T.faults tree.new) (T.tells tree.old) (chosen_files (map string_bytes paths.now) (T.contents tree.old)) refusal) }
+    ensures refused { IfErr result (λ refusal. IsProjectRefusal (seen_tree T.tells T.contents T.never_fails T.faults T.listings T.reads tree.old tree.new) (chosen_files (map string_bytes paths.now) (T.contents tree.old)) refusal) }
+    ensures listed { RoseBy 1 (T.listings tree.old) (T.listings tree.new) }
+    ensures read_once { IfOk result (λ project. RoseBy (length project.paths.items) (T.reads tree.old) (T.reads tree.new)) }
     ensures keeps { KeepsTree T.tells T.contents T.faults T.never_fails tree.old tree.new }
 {
     let paths = list_chosen(alloc, tree, paths)?;
@@ -53,7 +56,7 @@ fn attempt<T: Tree, K: Sink>(
     tree: &mut T,
     sink: &mut K,
 ) -> Result<Done, Refusal>
-    ensures comes { Comes (map string_bytes words.now) (T.tells tree.old) (T.contents tree.old) (T.faults tree.old) (T.faults tree.new) (T.never_fails tree.old) (K.tells sink.old) (K.written sink.old) (K.written sink.new) (K.faults sink.old) (K.faults sink.new) result }
+    ensures comes { Comes (map string_bytes words.now) (seen (seen_tree T.tells T.contents T.never_fails T.faults T.listings T.reads tree.old tree.new) (seen_sink K.tells K.written K.faults sink.old sink.new)) result }
     ensures steady { T.never_fails tree.old → T.faults tree.new ≡ T.faults tree.old }
     ensures room { T.tells tree.old → (text : List ℕ) (status : ℕ) → IsReport (files_of (map string_bytes words.now) (T.contents tree.old)) text status → length text ≤ K.room sink.old → (K.faults sink.new ≡ K.faults sink.old) × ¬ (result ≡ Err Refusal.SinkFault) }
 {
@@ -103,6 +106,16 @@ pub fn run_alone<T: Tree, K: Sink>(
     ensures front { result.refusal ≡ Some Refusal.SinkFault → T.tells tree.old → KeepsLimits (files_of (map string_bytes words.now) (T.contents tree.old))
         × (K.tells sink.old → AddsFront (files_of (map string_bytes words.now) (T.contents tree.old)) (K.written sink.old) (K.written sink.new)) }
     ensures untouched { IsSome result.refusal → ¬ (result.refusal ≡ Some Refusal.SinkFault) → K.tells sink.old → K.written sink.new ≡ K.written sink.old }
+
+    // How often it asks the folder: not at all where the words are refused, else it lists it once. Of the chosen files each is read once, none where there
+    // are too many, and none behind the sum that passes the limit.
+    ensures listed { refused_part (map string_bytes words.now) ≡ None → RoseBy 1 (T.listings tree.old) (T.listings tree.new) }
+    ensures unasked { IsSome (refused_part (map string_bytes words.now)) → (T.listings tree.new ≡ T.listings tree.old) × (T.reads tree.new ≡ T.reads tree.old) }
+    ensures read_once { IsNone result.refusal → T.tells tree.old → RoseBy (length (files_of (map string_bytes words.now) (T.contents tree.old))) (T.reads tree.old) (T.reads tree.new) }
+    ensures unread { (counted : ℕ) → result.refusal ≡ Some (Refusal.Limit Which.Files counted) → T.reads tree.new ≡ T.reads tree.old }
+    ensures read_to_the_limit { (counted : ℕ) → result.refusal ≡ Some (Refusal.Limit Which.Bytes counted) → T.tells tree.old
+        → RoseBy (reads_until 0 (sources_of (files_of (map string_bytes words.now) (T.contents tree.old)))) (T.reads tree.old) (T.reads tree.new) }
+    ensures read_at_most_once { T.tells tree.old → (number : ℕ) × (number ≤ reads_until 0 (sources_of (files_of (map string_bytes words.now) (T.contents tree.old)))) × RoseBy number (T.reads tree.old) (T.reads tree.new) }
 
     // Where the words are accepted, the limits are kept and no count of faults rose, memory alone can be wanting.
     ensures complete { refused_part (map string_bytes words.now) ≡ None → T.tells tree.old → KeepsLimits (files_of (map string_bytes words.now) (T.contents tree.old))

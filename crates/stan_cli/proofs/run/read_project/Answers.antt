@@ -1,4 +1,4 @@
-use Rattle.std.proofs.Common.{◌≡◌, ◌∙◌, sym, ap, subst, map, length, string_bytes, ◌≤◌}
+use Rattle.std.proofs.Common.{◌≡◌, ◌∙◌, refl, sym, ap, subst, map, length, string_bytes, ◌≤◌}
 use Rattle.std.specs.Prelude.{IsSome}
 use Rattle.std.specs.List.{Contains, zip}
 use Rattle.std.specs.FinMap as finite
@@ -6,6 +6,7 @@ use Rattle.std.proofs.lemmas.Result.{err_from_is_err_and}
 use Rattle.std.proofs.lemmas.List.{length-map}
 use Rattle.stan_cli.specs.Project.{chosen_files, paths_of, sources_of, most_files}
 use Rattle.stan_cli.proofs.ChosenLemmas.{Contains-chosen}
+use Rattle.stan_cli.specs.Seen.{seen_tree}
 use Rattle.stan_cli.specs.Sources.{source_bytes, source_at}
 use Rattle.stan_cli.proofs.ProjectLemmas.{sources-chosen, zip-files}
 use Rattle.stan_cli.proofs.RunLemmas.{project_refusal-read, number}
@@ -32,8 +33,9 @@ returns-in_err-sources-clause-refused g c =
     ∙ ap (map (source_at contents)) (list.chosen told)
     ∙ sym (sources-chosen contents (map string_bytes c.args.paths.now)) in
     let few : g.T.Tree.tells c.args.tree.now → length files ≤ most_files = λ told. number c.in_ok-paths.paths.items files (map string_bytes c.in_ok-paths.paths.items) (list.chosen told) (length-map c.in_ok-paths.paths.items string_bytes) list.few in
-    rw (p.1, p.2) (project_refusal-read (g.T.Tree.never_fails c.args.tree.now) (g.T.Tree.never_fails c.list_chosen.new.tree) (g.T.Tree.faults c.args.tree.now) (g.T.Tree.faults c.list_chosen.new.tree) (g.T.Tree.faults c.read_sources.new.tree)
-    (g.T.Tree.tells c.args.tree.now) (g.T.Tree.tells c.list_chosen.new.tree) _ files c.in_err-sources.field-0.0 keeps.still_never_fails keeps.no_fewer_faults keeps.tells_alike.0 same few c.in_err-sources.ensures.refused)
+    let old = seen_tree g.T.Tree.tells g.T.Tree.contents g.T.Tree.never_fails g.T.Tree.faults g.T.Tree.listings g.T.Tree.reads c.args.tree.now c.read_sources.new.tree in
+    let mid = seen_tree g.T.Tree.tells g.T.Tree.contents g.T.Tree.never_fails g.T.Tree.faults g.T.Tree.listings g.T.Tree.reads c.list_chosen.new.tree c.read_sources.new.tree in
+    rw (p.1, p.2) (project_refusal-read old mid _ files keeps.still_never_fails keeps.no_fewer_faults refl keeps.tells_alike.0 same few list.unread refl c.in_err-sources.field-0.0 c.in_err-sources.ensures.refused)
 
 pub returns-clause-files : goal.returns-clause-files
 returns-clause-files g c told =

@@ -1,5 +1,6 @@
-use Rattle.std.proofs.Common.{◌≡◌, ℕ, ◌≤◌, List, ◌++◌, map, take, string_bytes, length}
-use Rattle.stan_cli.specs.Project.{most_bytes, excess_from}
+use Rattle.std.proofs.Common.{◌≡◌, ℕ, ◌+◌, ◌≤◌, List, ◌++◌, map, take, string_bytes, length}
+use Rattle.stan_cli.specs.Project.{most_bytes, excess_from, reads_until}
+use Rattle.stan_outside.specs.Outside.{RoseBy}
 use Rattle.stan_cli.specs.Sources.{KeepsTree, source_bytes, source_at}
 use Rattle.stan_cli.proofs.sources.read_sources.Given as goal
 
@@ -11,4 +12,7 @@ invariant-loop-path g l = record {
   each : length l.sources.items ≡ l.path-index;
   sum : (rest : List (List ℕ)) → excess_from 0 (map source_bytes l.sources.items ++ rest) ≡ excess_from l.total rest;
   within : l.total ≤ most_bytes;
+  until : (rest : List (List ℕ)) → reads_until 0 (map source_bytes l.sources.items ++ rest) ≡ l.path-index + reads_until l.total rest;
+  unlisted : g.T.Tree.listings l.tree ≡ g.T.Tree.listings l.initial.tree;
+  read : RoseBy l.path-index (g.T.Tree.reads l.initial.tree) (g.T.Tree.reads l.tree);
 }
