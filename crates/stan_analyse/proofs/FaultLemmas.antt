@@ -12,7 +12,8 @@ use Rattle.std.specs.List.Sorted.{IsSorted, IsPermutation}
 use Rattle.std.proofs.lemmas.List.Filters.{dedup_is}
 use Rattle.stan_model_grammar.specs.declared.token.Token.{Token}
 use Rattle.stan_model_facts.specs.Facts.{CallFact, fact_of_call}
-use Rattle.stan_model_verdict.specs.Faults.{fault_cmp, function_not_found, in_order}
+use Rattle.stan_model_verdict.specs.Fault.{fault_cmp, in_order}
+use Rattle.stan_model_verdict.specs.FunctionNotFound.{function_not_found}
 use Rattle.stan_model_types.specs.Table as model
 use Rattle.stan_model_types.specs.Table.{answer_of}
 use Rattle.stan_base.specs.declared.ask_kind.AskKind.TheVariants as kinds

@@ -4,7 +4,8 @@ use Rattle.stan_base.specs.declared.ask_kind.AskKind.TheVariants as kinds
 use Rattle.stan_model_grammar.specs.declared.token.Token.{Token}
 use Rattle.stan_model_types.specs.Table.{Exported, answer_of}
 use Rattle.stan_model_facts.specs.Facts.{CallFact, fact_of_call}
-use Rattle.stan_model_verdict.specs.Faults.{Fault, function_not_found}
+use Rattle.stan_model_verdict.specs.Fault.{Fault}
+use Rattle.stan_model_verdict.specs.FunctionNotFound.{function_not_found}
 
 -- the fault of a call, if the table lacks its function
 abbrev pub fact_fault : List Exported → CallFact → Option Fault

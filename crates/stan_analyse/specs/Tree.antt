@@ -4,7 +4,8 @@ use Rattle.std.specs.List.{All}
 use Rattle.stan_model_grammar.specs.Reading as model
 use Rattle.stan_model_types.specs.Table as table
 use Rattle.stan_model_relations.specs.Exports.{exports_of}
-use Rattle.stan_model_verdict.specs.Faults as faults
+use Rattle.stan_model_verdict.specs.Fault as faults
+use Rattle.stan_model_verdict.specs.Faults.{faults_of}
 use Rattle.stan_analyse.specs.declared.tree.Reading.{Reading}
 use Rattle.stan_analyse.specs.declared.tree.Reading.TheVariants.{Readable, TooLarge, NotUtf8, Broken}
 use Rattle.stan_analyse.specs.Names.{IsWithin}
@@ -35,4 +36,4 @@ AreExports source nodes = (reading : model.Reading) × model.IsReading source re
 
 -- the faults of the source over a table
 abbrev pub AreFaults : List table.Exported → List ℕ → List faults.Fault → Type 0
-AreFaults nodes source found = (reading : model.Reading) × model.IsReading source reading × (found ≡ faults.faults_of nodes source reading)
+AreFaults nodes source found = (reading : model.Reading) × model.IsReading source reading × (found ≡ faults_of nodes source reading)

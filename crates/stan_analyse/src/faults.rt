@@ -3,7 +3,8 @@
 ghost use Rattle.std.specs.Prelude.{◌≡◌, ◌<◌, ◌-◌, ◌^◌, ◌++◌, IfOk, [], ◌∷◌, map, length, codes, option_map, string_bytes};
 ghost use Rattle.std.specs.List.{All};
 ghost use Rattle.stan_model_facts.specs.Facts.{fact_of_call};
-ghost use Rattle.stan_model_verdict.specs.Faults.{in_order, shown, unreadable};
+ghost use Rattle.stan_model_verdict.specs.Fault.{in_order, shown};
+ghost use Rattle.stan_model_verdict.specs.UnreadableFile.{unreadable};
 ghost use Rattle.stan_analyst.specs.Verdict.{fault_of};
 ghost use Rattle.stan_table.specs.Index.{index_table};
 ghost use Rattle.stan_analyse.specs.Faults.{fact_fault, call_faults};

@@ -18,7 +18,7 @@ use Rattle.std.proofs.lemmas.List.Elements.{filter_agree}
 use Rattle.std.proofs.lemmas.List.Folds.{Any-from_list_any, list_any-from_Any}
 use Rattle.std.proofs.lemmas.Bool.{false≢true}
 use Rattle.stan_base.proofs.Orders.{members_in_order_are, members_in_order_alike}
-use Rattle.stan_model_verdict.specs.Faults.{Fault, fault_cmp, in_order}
+use Rattle.stan_model_verdict.specs.Fault.{Fault, fault_cmp, in_order}
 
 pub fault_cmp_total : IsTotalOrder fault_cmp
 fault_cmp_total = then_total (on_total (λ (f : Fault). f.line) nat_cmp_total) (then_total (on_total (λ (f : Fault). f.rule) nat_cmp_total) (on_total (λ (f : Fault). f.text) nat_list_cmp_total))

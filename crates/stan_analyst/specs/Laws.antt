@@ -1,7 +1,7 @@
 -- What holds of lists of faults: each is the contract of a function of the module `laws`.
 use Rattle.std.specs.Prelude.{◌≡◌, ◌↔◌, List}
 use Rattle.std.specs.List.{Contains}
-use Rattle.stan_model_verdict.specs.Faults.{Fault, in_order}
+use Rattle.stan_model_verdict.specs.Fault.{Fault, in_order}
 
 -- The order in which faults are found, and that one is found twice, changes nothing.
 abbrev pub FaultsInAnyOrder : Type 0

@@ -3,7 +3,8 @@ use Rattle.std.specs.Prelude.{◌≡◌, ℕ, List, [], map, string_bytes}
 use Rattle.stan_base.specs.Name.{name_bytes}
 use Rattle.stan_model_grammar.specs.Reading.{Reading}
 use Rattle.stan_model_types.specs.Table.{Exported}
-use Rattle.stan_model_verdict.specs.Faults as faults
+use Rattle.stan_model_verdict.specs.Fault as faults
+use Rattle.stan_model_verdict.specs.Faults.{faults_of}
 use Rattle.stan_analyst.specs.declared.verdict.Collected.{Collected}
 use Rattle.stan_analyst.specs.declared.verdict.Collected.TheVariants as variants
 use Rattle.stan_analyst.specs.declared.verdict.Fault.{Fault}
@@ -23,6 +24,6 @@ collected_of (variants.TraitUsed name) = TraitUsed (name_bytes name)
 
 -- the verdict of a file that is read so, over a table
 pub record IsVerdict (table : List Exported) (source : List ℕ) (reading : Reading) (verdict : Verdict) : Type 0 where
-  pub faults_are : map fault_of verdict.faults.items ≡ faults.faults_of table source reading
+  pub faults_are : map fault_of verdict.faults.items ≡ faults_of table source reading
   pub nothing_collected : verdict.collected.items ≡ []
   pub nothing_ignored : verdict.ignored.items ≡ []

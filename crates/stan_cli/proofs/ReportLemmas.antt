@@ -7,7 +7,8 @@ use Rattle.std.proofs.lemmas.List.Sums.{sum_by-cons}
 use Rattle.stan_model_grammar.specs.Reading.{Reading, IsReading, AreReadings}
 use Rattle.stan_model_relations.specs.Exports.{exports_of, table_of}
 use Rattle.stan_model_types.specs.Table.{Exported}
-use Rattle.stan_model_verdict.specs.Faults.{Fault, faults_of}
+use Rattle.stan_model_verdict.specs.Fault.{Fault}
+use Rattle.stan_model_verdict.specs.Faults.{faults_of}
 use Rattle.stan_cli.specs.Project.{most_bytes, excess_from, sources_of}
 use Rattle.stan_analyse.proofs.ReadingLemmas.{one_readings}
 use Rattle.stan_cli.specs.Raw.{raw_text}

@@ -1,6 +1,6 @@
 -- The faults of a file as the definitions see them.
 use Rattle.std.specs.Prelude.{ℕ, List, map, string_bytes}
-use Rattle.stan_model_verdict.specs.Faults as faults
+use Rattle.stan_model_verdict.specs.Fault as faults
 use Rattle.stan_analyst.specs.Verdict.{fault_of}
 use Rattle.stan_analyst.specs.declared.verdict.FileFaults.{FileFaults}
 

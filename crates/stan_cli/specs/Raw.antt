@@ -2,7 +2,7 @@
 use Rattle.std.specs.Prelude.{ℕ, List, ◌++◌, codes}
 use Rattle.std.specs.List.{flat_map}
 use Rattle.std.specs.Fmt.{decimal}
-use Rattle.stan_model_verdict.specs.Faults.{Fault}
+use Rattle.stan_model_verdict.specs.Fault.{Fault}
 
 abbrev pub raw_line : List ℕ → Fault → List ℕ
 raw_line path fault = path ++ codes ":" ++ decimal fault.line ++ codes ":" ++ fault.text ++ codes "\n"

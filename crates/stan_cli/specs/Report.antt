@@ -4,7 +4,8 @@ use Rattle.std.specs.List.{list_any}
 use Rattle.stan_model_grammar.specs.Reading.{Reading, AreReadings}
 use Rattle.stan_model_relations.specs.Exports.{table_of}
 use Rattle.stan_model_types.specs.Table.{Exported}
-use Rattle.stan_model_verdict.specs.Faults.{Fault, faults_of}
+use Rattle.stan_model_verdict.specs.Fault.{Fault}
+use Rattle.stan_model_verdict.specs.Faults.{faults_of}
 use Rattle.stan_cli.specs.Project.{sources_of}
 use Rattle.stan_cli.specs.Raw.{raw_text}
 
