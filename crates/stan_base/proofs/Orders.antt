@@ -114,9 +114,6 @@ module _ {K : Type 0} {R : K → K → Ordering} (o : IsTotalOrder R) (a : IsAnt
 
   -- ---- members of sets and keys of maps
 
-  pub Contains-keys : {X : Type 0} (m : finite.FinMap R X) (k : K) → Contains (map (λ e. e.0) (finite.entries m)) k ↔ IsSome (finite.get m k)
-  Contains-keys m k = (λ h. finite.contains_key-keys m k ∙ found-from_Contains _ k h, λ h. Contains-from_found _ k (sym (finite.contains_key-keys m k) ∙ h))
-
   -- the keys that pass a test
   pub IsSome-where_key : {X : Type 0} (m : finite.FinMap R X) (p : K → Bool) (k : K) → IsSome (find R k (where_key R p (finite.entries m))) ↔ (IsSome (finite.get m k) × IsTrue (p k))
   IsSome-where_key m p k =

@@ -42,15 +42,6 @@ module _ (old mid : SeenTree) (sources : List (List ℕ)) (files : List (List �
   project_refusal-read SinkFault h = h
   project_refusal-read OutOfMemory h = within_from h
 
--- a refusal to list
-pub project_refusal-list : (tree : SeenTree) (files : List (List ℕ × List ℕ)) (number : ℕ) → number ≡ length files → tree.reads_after ≡ tree.reads → (refusal : Refusal) → IsListRefusal tree number refusal → IsProjectRefusal tree files refusal
-project_refusal-list tree files number e same (BadWords part) h = h
-project_refusal-list tree files number e same (Limit Files counted) h = (same, λ told. let both = h told in (both.0 ∙ e, subst (λ n. most_files < n) e both.1))
-project_refusal-list tree files number e same (Limit Bytes counted) h = absurd h
-project_refusal-list tree files number e same TreeFault h = (h.0, h.1, λ told. (0, omega arith, RoseBy-none tree.reads tree.reads_after same))
-project_refusal-list tree files number e same SinkFault h = h
-project_refusal-list tree files number e same OutOfMemory h = λ told. (0, omega arith, RoseBy-none tree.reads tree.reads_after same)
-
 -- a refusal before anything is written
 pub comes-project : (words : List (List ℕ)) (shown : Seen) (refusal : Refusal) → IsListed words shown → IsUntouched shown.sink → IsProjectRefusal shown.tree (files_of words shown.tree.contents) refusal → Comes words shown (Err refusal)
 comes-project words shown (BadWords part) listed kept h = absurd h
@@ -59,14 +50,6 @@ comes-project words shown (Limit Bytes counted) listed kept h = (listed, h, kept
 comes-project words shown TreeFault listed kept h = (listed, h, kept)
 comes-project words shown SinkFault listed kept h = absurd h
 comes-project words shown OutOfMemory listed kept h = (listed, h, kept)
-
--- nothing but the folder and the words is at fault before anything is written
-pub not_sink-project : (tree : SeenTree) (files : List (List ℕ × List ℕ)) (refusal : Refusal) → IsProjectRefusal tree files refusal → refusal ≡ SinkFault → ⊥
-not_sink-project tree files (BadWords part) h e = h
-not_sink-project tree files (Limit which counted) h e = cc
-not_sink-project tree files TreeFault h e = cc
-not_sink-project tree files SinkFault h e = h
-not_sink-project tree files OutOfMemory h e = cc
 
 -- each file once, where none is left
 pub whole_read : (tree : SeenTree) (files : List (List ℕ × List ℕ)) → KeepsLimits files → RoseBy (length files) tree.reads tree.reads_after → (number : ℕ) × (number ≤ reads_until 0 (sources_of files)) × RoseBy number tree.reads tree.reads_after

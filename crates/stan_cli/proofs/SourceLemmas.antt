@@ -12,26 +12,11 @@ use Rattle.stan_cli.specs.declared.refusal.Refusal.{Refusal}
 use Rattle.stan_cli.specs.declared.refusal.Refusal.TheVariants.{BadWords, Limit, TreeFault, SinkFault, OutOfMemory}
 use Rattle.stan_cli.specs.declared.refusal.Which.TheVariants.{Files, Bytes}
 
--- ---- the folder between two calls
-
-module _ {T : Type 0} {tells : T → Type 0} {contents : T → Contents} {faults : T → ℕ} {never_fails : T → Type 0} where
-  pub KeepsTree-refl : (t : T) → KeepsTree tells contents faults never_fails t t
-  KeepsTree-refl t = record { tells_alike = (λ h. h, λ h. h); same_contents = refl; no_fewer_faults = omega arith; same_faults = λ _. refl; still_never_fails = λ h. h }
-
-  pub KeepsTree-trans : (a b c : T) → KeepsTree tells contents faults never_fails a b → KeepsTree tells contents faults never_fails b c → KeepsTree tells contents faults never_fails a c
-  KeepsTree-trans a b c p q = record {
-    tells_alike = (λ h. q.tells_alike.0 (p.tells_alike.0 h), λ h. p.tells_alike.1 (q.tells_alike.1 h));
-    same_contents = q.same_contents ∙ p.same_contents;
-    no_fewer_faults = omega (arith, p.no_fewer_faults, q.no_fewer_faults);
-    same_faults = λ h. q.same_faults (p.still_never_fails h) ∙ p.same_faults h;
-    still_never_fails = λ h. q.still_never_fails (p.still_never_fails h);
-  }
+-- ---- counts
 
 pub Rose-later : (a b c : ℕ) → a ≤ b → Rose b c → Rose a c
 Rose-later a b c le (inl lt) = inl (omega arith)
 Rose-later a b c le (inr e) = inr e
-
--- ---- counts
 
 pub RoseBy-none : (a b : ℕ) → b ≡ a → RoseBy 0 a b
 RoseBy-none a b e = omega arith

@@ -14,9 +14,6 @@ pub fold_case_twice : (name : List ℕ) → fold_case (fold_case name) ≡ fold_
 fold_case_twice [] = refl
 fold_case_twice (b ∷ bs) = cc (lowercase-lowercase b, fold_case_twice bs)
 
-has_backslash : List ℕ → Bool
-has_backslash = list_any (λ x. eqb x 92)
-
 -- a letter's case makes no backslash of it
 backslash_kept : (b : ℕ) → eqb (to_ascii_lowercase b) 92 ≡ eqb b 92
 backslash_kept b = grind arith
