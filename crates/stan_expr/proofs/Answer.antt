@@ -7,24 +7,13 @@ use Rattle.stan_model_grammar.specs.Expressions.{Spells, IsEnd}
 use Rattle.stan_model_grammar.specs.Strata.{loosest}
 use Rattle.stan_model_grammar.specs.Takes.{IsTreeOf}
 use Rattle.stan_model_grammar.specs.Trees.{Tree}
-use Rattle.stan_expr.specs.Answer.{TokensHaveATree, ExpressionsEndAtOnePlace}
 use Rattle.stan_expr_rules.specs.Parse.{expression_at}
-use Rattle.stan_expr_greedy.proofs.Complete.{expression_complete, one_is_picked}
+use Rattle.stan_expr_greedy.proofs.Complete.{expression_complete}
 use Rattle.stan_expr_rules.proofs.InsideLemmas.{reads_inside}
 use Rattle.stan_expr_rules.proofs.Greedy.{Near, Picks}
 use Rattle.stan_expr_law.proofs.Law.{some_is_picked}
 use Rattle.stan_expr_greedy.proofs.Sound.{expression_sound}
 use Rattle.stan_expr_takes.proofs.Takes.{picked_is_tree}
-
--- the tree of tokens that some tree spells
-pub has_tree : TokensHaveATree
-has_tree ts t at to h e = let p = some_is_picked ts t at to h e in (p.0, picked_is_tree ts p.0 at to p.1)
-
-pub one_end : ExpressionsEndAtOnePlace
-one_end ts t u at to end h e i f =
-    let p = some_is_picked ts t at to h e in
-    let q = some_is_picked ts u at end i f in
-    (one_is_picked ts p.0 q.0 false loosest at to end (omega arith) (omega arith) p.1 q.1).1
 
 -- where no picked tree up to an end is within the depth, each is too deep
 pub too_deep : (ts : List Token) (levels n at to : ℕ) (t : Tree) → Spells ts t at to → IsEnd ts to → 200 ≤ n + levels

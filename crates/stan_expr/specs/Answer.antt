@@ -1,4 +1,4 @@
--- What the parser answers, and laws of the grammar.
+-- What the parser answers.
 use Rattle.std.specs.Prelude.{◌≡◌, ℕ, ◌+◌, ◌≤◌, ◌<◌, List}
 use Rattle.stan_model_grammar.specs.declared.token.Token.{Token}
 use Rattle.stan_model_grammar.specs.Depth.{depth}
@@ -15,11 +15,3 @@ use Rattle.stan_expr.specs.declared.parser.Parsed.TheVariants.{Done, Absent}
 abbrev pub Answers : List Token → ℕ → ℕ → Parsed Expr → Type 0
 Answers ts at levels (Done e to) = IsTreeOf ts (tree_of e) at to × IsEnd ts to × (depth (tree_of e) + levels ≤ 200)
 Answers ts at levels Absent = (t : Tree) (to : ℕ) → Spells ts t at to → IsEnd ts to → (g : Tree) × IsTreeOf ts g at to × (200 < depth g + levels)
-
--- Where a tree spells the tokens up to an end, they have a tree.
-abbrev pub TokensHaveATree : Type 0
-TokensHaveATree = (ts : List Token) (t : Tree) (at to : ℕ) → Spells ts t at to → IsEnd ts to → (g : Tree) × IsTreeOf ts g at to
-
--- The expressions that begin at a place and are followed by an end token end at one place.
-abbrev pub ExpressionsEndAtOnePlace : Type 0
-ExpressionsEndAtOnePlace = (ts : List Token) (t u : Tree) (at to end : ℕ) → Spells ts t at to → IsEnd ts to → Spells ts u at end → IsEnd ts end → to ≡ end

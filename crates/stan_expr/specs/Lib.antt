@@ -1,4 +1,1 @@
-pub mod Targets
-pub mod Branches
-pub mod Gives
 pub mod Answer

@@ -2,16 +2,13 @@
 
 ghost use Rattle.std.specs.Prelude.{◌<◌, ◌^◌, IfOk, length};
 ghost use Rattle.stan_expr.specs.Answer.{Answers};
-ghost use Rattle.stan_expr.specs.Gives.{Gives, at};
-ghost use Rattle.stan_expr_rules.specs.Parse as parse;
-ghost use Rattle.stan_syntax.specs.Tree.{tree_of};
 
-use crate::grammar::Grammar;
-use crate::places::kind_at;
-use crate::stop::Stop;
-use crate::strata::{LOOSEST, is_end};
 use stan_base::OutOfMemory;
+use stan_expr_reader::expression_at;
 use stan_model_grammar::token::Token;
+use stan_places::places::kind_at;
+use stan_places::stop::Stop;
+use stan_places::strata::is_end;
 use stan_syntax::Expr;
 use std::alloc::Global;
 
@@ -24,49 +21,6 @@ pub enum Parsed<T> {
     Done(T, u32),
     /// No such thing stands there, or it is too deep.
     Absent,
-}
-
-fn below(
-    alloc: Global,
-    tokens: &[Token],
-    depth: u32,
-    pattern: bool,
-    stratum: u8,
-    place: usize,
-) -> Result<(Expr, usize), Stop>
-    requires few { length tokens.now < 2 ^ 32 }
-    ensures { Gives (at tree_of) result (parse.below tokens.now depth pattern stratum place) }
-{
-    if depth == 0 {
-        return Err(Stop::Absent);
-    }
-    Grammar {
-        alloc,
-        tokens,
-        depth: depth - 1,
-        read: below,
-    }
-    .strata(pattern, stratum, place)
-}
-
-/// An expression with at most this many levels.
-#[tactic(auto, unfolding(stan_expr_rules::specs::Parse::expression_at))]
-fn expression_at(
-    alloc: Global,
-    tokens: &[Token],
-    depth: u32,
-    place: usize,
-) -> Result<(Expr, usize), Stop>
-    requires few { length tokens.now < 2 ^ 32 }
-    ensures { Gives (at tree_of) result (parse.expression_at tokens.now depth place) }
-{
-    Grammar {
-        alloc,
-        tokens,
-        depth,
-        read: below,
-    }
-    .strata(false, LOOSEST, place)
 }
 
 /// The expression that begins at this place of the tokens, which have no comments and attributes (`stan_lexer::code_tokens`), where

@@ -2,11 +2,10 @@
 use Rattle.std.proofs.Common.{◌≡◌, ℕ, Bool, List, [], ◌∷◌, ◌++◌, ◌+◌, ◌<◌, max, length, get_or, take, refl, ap, sym, ◌∙◌, arith}
 use Rattle.std.specs.Prelude.{map}
 use Rattle.std.proofs.lemmas.List.{take_more}
-use Rattle.stan_model_grammar.specs.declared.operators.BinaryOperator.{BinaryOperator}
 use Rattle.stan_model_grammar.specs.Depth.{depth, items_depth, item_depth, steps_depth, step_depth, statements_depth, statement_depth}
 use Rattle.stan_model_grammar.specs.Trees as model
 use Rattle.stan_syntax.specs.Depth.{greatest}
-use Rattle.stan_model_grammar.specs.TreeLists.{listed, furthers, steps, operation_steps, statements}
+use Rattle.stan_model_grammar.specs.TreeLists.{Operated, listed, furthers, steps, operation_steps, statements}
 
 module _ where
   greatest_push : {A : Type 0} (f : A → ℕ) (xs : List A) (x : A) → greatest f (xs ++ x ∷ []) ≡ max (greatest f xs) (f x)
@@ -21,9 +20,9 @@ pub steps_greatest : {A : Type 0} (g : A → model.Step) (xs : List A) → steps
 steps_greatest g [] = refl
 steps_greatest g (x ∷ xs) = ap (max (step_depth (g x))) (steps_greatest g xs)
 
-pub operations_greatest : {A : Type 0} (g : A → BinaryOperator × model.Tree) (xs : List A) → steps_depth (operation_steps (map g xs)) ≡ greatest (λ x. depth (g x).1 + 1) xs
+pub operations_greatest : {A : Type 0} (g : A → Operated) (xs : List A) → steps_depth (operation_steps (map g xs)) ≡ greatest (λ x. depth (g x).operand + 1) xs
 operations_greatest g [] = refl
-operations_greatest g (x ∷ xs) = ap (max (depth (g x).1 + 1)) (operations_greatest g xs)
+operations_greatest g (x ∷ xs) = ap (max (depth (g x).operand + 1)) (operations_greatest g xs)
 
 pub statements_greatest : {A : Type 0} (g : A → model.Statement) (xs : List A) → statements_depth (statements (map g xs)) ≡ greatest (λ x. statement_depth (g x)) xs
 statements_greatest g [] = refl

@@ -36,71 +36,71 @@ use Rattle.stan_syntax.specs.declared.tree.Suffix.TheVariants as suffixes
 use Rattle.stan_syntax.specs.declared.tree.TextPart.TheVariants as parts
 use Rattle.stan_syntax.specs.declared.tree.Argument.TheOpen.{Argument-F, Arm-F, Body-F, ClassReference-F, Element-F, Form-F, MemberName-F, Stmt-F, Suffix-F, TextPart-F}
 use Rattle.stan_syntax.specs.declared.tree.Argument.TheFolds.{map-Argument, map-Arm, map-Body, map-ClassReference, map-Element, map-Form, map-MemberName, map-Stmt, map-Suffix, map-TextPart}
-use Rattle.stan_model_grammar.specs.TreeLists.{listed, operation_steps, chain_stratum, steps, may_be_called, default_of}
-use Rattle.stan_syntax.specs.Tree.{statements as statements_of, may_type, argument_step, arm_step, body_step, class_step, element_step, form_step, member_step, statement_step, suffix_step, part_step, arguments_step, expr_step, operation_step, parameter_step, argument_of, arm_of, body_of, class_of, element_of, form_of, member_of, statement_of, suffix_of, part_of, arguments_of, tree_of, operation_of, parameter_of}
+use Rattle.stan_model_grammar.specs.TreeLists.{Operated, listed, operation_steps, chain_stratum, steps, may_be_called, default_of, statements as statements_of}
+use Rattle.stan_syntax.specs.Tree.{may_type, argument_step, arm_step, body_step, class_step, element_step, form_step, member_step, statement_step, suffix_step, part_step, arguments_step, expr_step, operation_step, parameter_step, argument_of, arm_of, body_of, class_of, element_of, form_of, member_of, statement_of, suffix_of, part_of, arguments_of, tree_of, operation_of, parameter_of}
 
 module _ where
   abbrev Whole : ((A B C D E F G H I J K L M N : Type 0) → Type 0) → Type 0
   Whole T = T Argument Arm Body ClassReference Element Form MemberName Stmt Suffix TextPart Arguments Expr Operation Parameter
 
-  open_argument : (l : Whole Argument-F) → argument_of (roll-Argument l) ≡ argument_step (map-Argument Argument Arm Body ClassReference Element Form MemberName Stmt Suffix TextPart Arguments Expr Operation Parameter model.Item model.Item model.Body model.ClassReference model.Item model.Form model.MemberName model.Statement model.Step model.Step model.Items model.Tree (BinaryOperator × model.Tree) model.Item
+  open_argument : (l : Whole Argument-F) → argument_of (roll-Argument l) ≡ argument_step (map-Argument Argument Arm Body ClassReference Element Form MemberName Stmt Suffix TextPart Arguments Expr Operation Parameter model.Item model.Item model.Body model.ClassReference model.Item model.Form model.MemberName model.Statement model.Step model.Step model.Items model.Tree Operated model.Item
       argument_of arm_of body_of class_of element_of form_of member_of statement_of suffix_of part_of arguments_of tree_of operation_of parameter_of l)
   unfolding argument_of arm_of body_of class_of element_of form_of member_of statement_of suffix_of part_of arguments_of tree_of operation_of parameter_of
-  open_argument = fold-roll-Argument model.Item model.Item model.Body model.ClassReference model.Item model.Form model.MemberName model.Statement model.Step model.Step model.Items model.Tree (BinaryOperator × model.Tree) model.Item
+  open_argument = fold-roll-Argument model.Item model.Item model.Body model.ClassReference model.Item model.Form model.MemberName model.Statement model.Step model.Step model.Items model.Tree Operated model.Item
       argument_step arm_step body_step class_step element_step form_step member_step statement_step suffix_step part_step arguments_step expr_step operation_step parameter_step
 
-  open_arm : (l : Whole Arm-F) → arm_of (roll-Arm l) ≡ arm_step (map-Arm Argument Arm Body ClassReference Element Form MemberName Stmt Suffix TextPart Arguments Expr Operation Parameter model.Item model.Item model.Body model.ClassReference model.Item model.Form model.MemberName model.Statement model.Step model.Step model.Items model.Tree (BinaryOperator × model.Tree) model.Item
+  open_arm : (l : Whole Arm-F) → arm_of (roll-Arm l) ≡ arm_step (map-Arm Argument Arm Body ClassReference Element Form MemberName Stmt Suffix TextPart Arguments Expr Operation Parameter model.Item model.Item model.Body model.ClassReference model.Item model.Form model.MemberName model.Statement model.Step model.Step model.Items model.Tree Operated model.Item
       argument_of arm_of body_of class_of element_of form_of member_of statement_of suffix_of part_of arguments_of tree_of operation_of parameter_of l)
   unfolding argument_of arm_of body_of class_of element_of form_of member_of statement_of suffix_of part_of arguments_of tree_of operation_of parameter_of
-  open_arm = fold-roll-Arm model.Item model.Item model.Body model.ClassReference model.Item model.Form model.MemberName model.Statement model.Step model.Step model.Items model.Tree (BinaryOperator × model.Tree) model.Item
+  open_arm = fold-roll-Arm model.Item model.Item model.Body model.ClassReference model.Item model.Form model.MemberName model.Statement model.Step model.Step model.Items model.Tree Operated model.Item
       argument_step arm_step body_step class_step element_step form_step member_step statement_step suffix_step part_step arguments_step expr_step operation_step parameter_step
 
-  open_body : (l : Whole Body-F) → body_of (roll-Body l) ≡ body_step (map-Body Argument Arm Body ClassReference Element Form MemberName Stmt Suffix TextPart Arguments Expr Operation Parameter model.Item model.Item model.Body model.ClassReference model.Item model.Form model.MemberName model.Statement model.Step model.Step model.Items model.Tree (BinaryOperator × model.Tree) model.Item
+  open_body : (l : Whole Body-F) → body_of (roll-Body l) ≡ body_step (map-Body Argument Arm Body ClassReference Element Form MemberName Stmt Suffix TextPart Arguments Expr Operation Parameter model.Item model.Item model.Body model.ClassReference model.Item model.Form model.MemberName model.Statement model.Step model.Step model.Items model.Tree Operated model.Item
       argument_of arm_of body_of class_of element_of form_of member_of statement_of suffix_of part_of arguments_of tree_of operation_of parameter_of l)
   unfolding argument_of arm_of body_of class_of element_of form_of member_of statement_of suffix_of part_of arguments_of tree_of operation_of parameter_of
-  open_body = fold-roll-Body model.Item model.Item model.Body model.ClassReference model.Item model.Form model.MemberName model.Statement model.Step model.Step model.Items model.Tree (BinaryOperator × model.Tree) model.Item
+  open_body = fold-roll-Body model.Item model.Item model.Body model.ClassReference model.Item model.Form model.MemberName model.Statement model.Step model.Step model.Items model.Tree Operated model.Item
       argument_step arm_step body_step class_step element_step form_step member_step statement_step suffix_step part_step arguments_step expr_step operation_step parameter_step
 
-  open_class : (l : Whole ClassReference-F) → class_of (roll-ClassReference l) ≡ class_step (map-ClassReference Argument Arm Body ClassReference Element Form MemberName Stmt Suffix TextPart Arguments Expr Operation Parameter model.Item model.Item model.Body model.ClassReference model.Item model.Form model.MemberName model.Statement model.Step model.Step model.Items model.Tree (BinaryOperator × model.Tree) model.Item
+  open_class : (l : Whole ClassReference-F) → class_of (roll-ClassReference l) ≡ class_step (map-ClassReference Argument Arm Body ClassReference Element Form MemberName Stmt Suffix TextPart Arguments Expr Operation Parameter model.Item model.Item model.Body model.ClassReference model.Item model.Form model.MemberName model.Statement model.Step model.Step model.Items model.Tree Operated model.Item
       argument_of arm_of body_of class_of element_of form_of member_of statement_of suffix_of part_of arguments_of tree_of operation_of parameter_of l)
   unfolding argument_of arm_of body_of class_of element_of form_of member_of statement_of suffix_of part_of arguments_of tree_of operation_of parameter_of
-  open_class = fold-roll-ClassReference model.Item model.Item model.Body model.ClassReference model.Item model.Form model.MemberName model.Statement model.Step model.Step model.Items model.Tree (BinaryOperator × model.Tree) model.Item
+  open_class = fold-roll-ClassReference model.Item model.Item model.Body model.ClassReference model.Item model.Form model.MemberName model.Statement model.Step model.Step model.Items model.Tree Operated model.Item
       argument_step arm_step body_step class_step element_step form_step member_step statement_step suffix_step part_step arguments_step expr_step operation_step parameter_step
 
-  open_element : (l : Whole Element-F) → element_of (roll-Element l) ≡ element_step (map-Element Argument Arm Body ClassReference Element Form MemberName Stmt Suffix TextPart Arguments Expr Operation Parameter model.Item model.Item model.Body model.ClassReference model.Item model.Form model.MemberName model.Statement model.Step model.Step model.Items model.Tree (BinaryOperator × model.Tree) model.Item
+  open_element : (l : Whole Element-F) → element_of (roll-Element l) ≡ element_step (map-Element Argument Arm Body ClassReference Element Form MemberName Stmt Suffix TextPart Arguments Expr Operation Parameter model.Item model.Item model.Body model.ClassReference model.Item model.Form model.MemberName model.Statement model.Step model.Step model.Items model.Tree Operated model.Item
       argument_of arm_of body_of class_of element_of form_of member_of statement_of suffix_of part_of arguments_of tree_of operation_of parameter_of l)
   unfolding argument_of arm_of body_of class_of element_of form_of member_of statement_of suffix_of part_of arguments_of tree_of operation_of parameter_of
-  open_element = fold-roll-Element model.Item model.Item model.Body model.ClassReference model.Item model.Form model.MemberName model.Statement model.Step model.Step model.Items model.Tree (BinaryOperator × model.Tree) model.Item
+  open_element = fold-roll-Element model.Item model.Item model.Body model.ClassReference model.Item model.Form model.MemberName model.Statement model.Step model.Step model.Items model.Tree Operated model.Item
       argument_step arm_step body_step class_step element_step form_step member_step statement_step suffix_step part_step arguments_step expr_step operation_step parameter_step
 
-  open_form : (l : Whole Form-F) → form_of (roll-Form l) ≡ form_step (map-Form Argument Arm Body ClassReference Element Form MemberName Stmt Suffix TextPart Arguments Expr Operation Parameter model.Item model.Item model.Body model.ClassReference model.Item model.Form model.MemberName model.Statement model.Step model.Step model.Items model.Tree (BinaryOperator × model.Tree) model.Item
+  open_form : (l : Whole Form-F) → form_of (roll-Form l) ≡ form_step (map-Form Argument Arm Body ClassReference Element Form MemberName Stmt Suffix TextPart Arguments Expr Operation Parameter model.Item model.Item model.Body model.ClassReference model.Item model.Form model.MemberName model.Statement model.Step model.Step model.Items model.Tree Operated model.Item
       argument_of arm_of body_of class_of element_of form_of member_of statement_of suffix_of part_of arguments_of tree_of operation_of parameter_of l)
   unfolding argument_of arm_of body_of class_of element_of form_of member_of statement_of suffix_of part_of arguments_of tree_of operation_of parameter_of
-  open_form = fold-roll-Form model.Item model.Item model.Body model.ClassReference model.Item model.Form model.MemberName model.Statement model.Step model.Step model.Items model.Tree (BinaryOperator × model.Tree) model.Item
+  open_form = fold-roll-Form model.Item model.Item model.Body model.ClassReference model.Item model.Form model.MemberName model.Statement model.Step model.Step model.Items model.Tree Operated model.Item
       argument_step arm_step body_step class_step element_step form_step member_step statement_step suffix_step part_step arguments_step expr_step operation_step parameter_step
 
-  open_member : (l : Whole MemberName-F) → member_of (roll-MemberName l) ≡ member_step (map-MemberName Argument Arm Body ClassReference Element Form MemberName Stmt Suffix TextPart Arguments Expr Operation Parameter model.Item model.Item model.Body model.ClassReference model.Item model.Form model.MemberName model.Statement model.Step model.Step model.Items model.Tree (BinaryOperator × model.Tree) model.Item
+  open_member : (l : Whole MemberName-F) → member_of (roll-MemberName l) ≡ member_step (map-MemberName Argument Arm Body ClassReference Element Form MemberName Stmt Suffix TextPart Arguments Expr Operation Parameter model.Item model.Item model.Body model.ClassReference model.Item model.Form model.MemberName model.Statement model.Step model.Step model.Items model.Tree Operated model.Item
       argument_of arm_of body_of class_of element_of form_of member_of statement_of suffix_of part_of arguments_of tree_of operation_of parameter_of l)
   unfolding argument_of arm_of body_of class_of element_of form_of member_of statement_of suffix_of part_of arguments_of tree_of operation_of parameter_of
-  open_member = fold-roll-MemberName model.Item model.Item model.Body model.ClassReference model.Item model.Form model.MemberName model.Statement model.Step model.Step model.Items model.Tree (BinaryOperator × model.Tree) model.Item
+  open_member = fold-roll-MemberName model.Item model.Item model.Body model.ClassReference model.Item model.Form model.MemberName model.Statement model.Step model.Step model.Items model.Tree Operated model.Item
       argument_step arm_step body_step class_step element_step form_step member_step statement_step suffix_step part_step arguments_step expr_step operation_step parameter_step
 
-  open_statement : (l : Whole Stmt-F) → statement_of (roll-Stmt l) ≡ statement_step (map-Stmt Argument Arm Body ClassReference Element Form MemberName Stmt Suffix TextPart Arguments Expr Operation Parameter model.Item model.Item model.Body model.ClassReference model.Item model.Form model.MemberName model.Statement model.Step model.Step model.Items model.Tree (BinaryOperator × model.Tree) model.Item
+  open_statement : (l : Whole Stmt-F) → statement_of (roll-Stmt l) ≡ statement_step (map-Stmt Argument Arm Body ClassReference Element Form MemberName Stmt Suffix TextPart Arguments Expr Operation Parameter model.Item model.Item model.Body model.ClassReference model.Item model.Form model.MemberName model.Statement model.Step model.Step model.Items model.Tree Operated model.Item
       argument_of arm_of body_of class_of element_of form_of member_of statement_of suffix_of part_of arguments_of tree_of operation_of parameter_of l)
   unfolding argument_of arm_of body_of class_of element_of form_of member_of statement_of suffix_of part_of arguments_of tree_of operation_of parameter_of
-  open_statement = fold-roll-Stmt model.Item model.Item model.Body model.ClassReference model.Item model.Form model.MemberName model.Statement model.Step model.Step model.Items model.Tree (BinaryOperator × model.Tree) model.Item
+  open_statement = fold-roll-Stmt model.Item model.Item model.Body model.ClassReference model.Item model.Form model.MemberName model.Statement model.Step model.Step model.Items model.Tree Operated model.Item
       argument_step arm_step body_step class_step element_step form_step member_step statement_step suffix_step part_step arguments_step expr_step operation_step parameter_step
 
-  open_suffix : (l : Whole Suffix-F) → suffix_of (roll-Suffix l) ≡ suffix_step (map-Suffix Argument Arm Body ClassReference Element Form MemberName Stmt Suffix TextPart Arguments Expr Operation Parameter model.Item model.Item model.Body model.ClassReference model.Item model.Form model.MemberName model.Statement model.Step model.Step model.Items model.Tree (BinaryOperator × model.Tree) model.Item
+  open_suffix : (l : Whole Suffix-F) → suffix_of (roll-Suffix l) ≡ suffix_step (map-Suffix Argument Arm Body ClassReference Element Form MemberName Stmt Suffix TextPart Arguments Expr Operation Parameter model.Item model.Item model.Body model.ClassReference model.Item model.Form model.MemberName model.Statement model.Step model.Step model.Items model.Tree Operated model.Item
       argument_of arm_of body_of class_of element_of form_of member_of statement_of suffix_of part_of arguments_of tree_of operation_of parameter_of l)
   unfolding argument_of arm_of body_of class_of element_of form_of member_of statement_of suffix_of part_of arguments_of tree_of operation_of parameter_of
-  open_suffix = fold-roll-Suffix model.Item model.Item model.Body model.ClassReference model.Item model.Form model.MemberName model.Statement model.Step model.Step model.Items model.Tree (BinaryOperator × model.Tree) model.Item
+  open_suffix = fold-roll-Suffix model.Item model.Item model.Body model.ClassReference model.Item model.Form model.MemberName model.Statement model.Step model.Step model.Items model.Tree Operated model.Item
       argument_step arm_step body_step class_step element_step form_step member_step statement_step suffix_step part_step arguments_step expr_step operation_step parameter_step
 
-  open_part : (l : Whole TextPart-F) → part_of (roll-TextPart l) ≡ part_step (map-TextPart Argument Arm Body ClassReference Element Form MemberName Stmt Suffix TextPart Arguments Expr Operation Parameter model.Item model.Item model.Body model.ClassReference model.Item model.Form model.MemberName model.Statement model.Step model.Step model.Items model.Tree (BinaryOperator × model.Tree) model.Item
+  open_part : (l : Whole TextPart-F) → part_of (roll-TextPart l) ≡ part_step (map-TextPart Argument Arm Body ClassReference Element Form MemberName Stmt Suffix TextPart Arguments Expr Operation Parameter model.Item model.Item model.Body model.ClassReference model.Item model.Form model.MemberName model.Statement model.Step model.Step model.Items model.Tree Operated model.Item
       argument_of arm_of body_of class_of element_of form_of member_of statement_of suffix_of part_of arguments_of tree_of operation_of parameter_of l)
   unfolding argument_of arm_of body_of class_of element_of form_of member_of statement_of suffix_of part_of arguments_of tree_of operation_of parameter_of
-  open_part = fold-roll-TextPart model.Item model.Item model.Body model.ClassReference model.Item model.Form model.MemberName model.Statement model.Step model.Step model.Items model.Tree (BinaryOperator × model.Tree) model.Item
+  open_part = fold-roll-TextPart model.Item model.Item model.Body model.ClassReference model.Item model.Form model.MemberName model.Statement model.Step model.Step model.Items model.Tree Operated model.Item
       argument_step arm_step body_step class_step element_step form_step member_step statement_step suffix_step part_step arguments_step expr_step operation_step parameter_step
 
 pub argument-Positional : (e : Expr) → argument_of (arguments.Positional e) ≡ model.Positional (tree_of e)
@@ -192,8 +192,8 @@ form-Assignment target o e = ap form_of (sym (forms.rolls-Assignment target o e)
 pub form-Chain : (e : Expr) (os : List Operation) → form_of (forms.Chain e os) ≡ model.Chain (chain_stratum (map operation_of os)) (tree_of e) (operation_steps (map operation_of os))
 form-Chain e os = ap form_of (sym (forms.rolls-Chain e os)) ∙ open_form (Form-F.Chain e os)
 
-pub form-Binary : (d : Expr) (o : BinaryOperator) (e : Expr) → form_of (forms.Binary d o e) ≡ model.Binary (tree_of d) o (tree_of e)
-form-Binary d o e = ap form_of (sym (forms.rolls-Binary d o e)) ∙ open_form (Form-F.Binary d o e)
+pub form-Binary : (d : Expr) (t : Token) (o : BinaryOperator) (e : Expr) → form_of (forms.Binary d t o e) ≡ model.Binary (tree_of d) t o (tree_of e)
+form-Binary d t o e = ap form_of (sym (forms.rolls-Binary d t o e)) ∙ open_form (Form-F.Binary d t o e)
 
 pub form-Conditional : (c d e : Expr) → form_of (forms.Conditional c d e) ≡ model.Conditional (tree_of c) (tree_of d) (tree_of e)
 form-Conditional c d e = ap form_of (sym (forms.rolls-Conditional c d e)) ∙ open_form (Form-F.Conditional c d e)
@@ -238,24 +238,24 @@ part-Expression e = ap part_of (sym (parts.rolls-Expression e)) ∙ open_part (T
 
 pub arguments-made : (es : List Argument) (comma : Bool) → arguments_of (roll-Arguments (record { list = es; comma = comma })) ≡ listed (map argument_of es) comma
 unfolding argument_of arm_of body_of class_of element_of form_of member_of statement_of suffix_of part_of arguments_of tree_of operation_of parameter_of
-arguments-made es comma = fold-roll-Arguments model.Item model.Item model.Body model.ClassReference model.Item model.Form model.MemberName model.Statement model.Step model.Step model.Items model.Tree (BinaryOperator × model.Tree) model.Item
+arguments-made es comma = fold-roll-Arguments model.Item model.Item model.Body model.ClassReference model.Item model.Form model.MemberName model.Statement model.Step model.Step model.Items model.Tree Operated model.Item
     argument_step arm_step body_step class_step element_step form_step member_step statement_step suffix_step part_step arguments_step expr_step operation_step parameter_step (record { list = es; comma = comma })
 
 pub tree-made : (t : Token) (form : Form) → tree_of (roll-Expr (record { first = t; form = form })) ≡ model.node t (form_of form)
 unfolding argument_of arm_of body_of class_of element_of form_of member_of statement_of suffix_of part_of arguments_of tree_of operation_of parameter_of
-tree-made t form = fold-roll-Expr model.Item model.Item model.Body model.ClassReference model.Item model.Form model.MemberName model.Statement model.Step model.Step model.Items model.Tree (BinaryOperator × model.Tree) model.Item
+tree-made t form = fold-roll-Expr model.Item model.Item model.Body model.ClassReference model.Item model.Form model.MemberName model.Statement model.Step model.Step model.Items model.Tree Operated model.Item
     argument_step arm_step body_step class_step element_step form_step member_step statement_step suffix_step part_step arguments_step expr_step operation_step parameter_step (record { first = t; form = form })
 
-pub operation-made : (o : BinaryOperator) (e : Expr) → operation_of (roll-Operation (record { operator = o; operand = e })) ≡ (o, tree_of e)
+pub operation-made : (t : Token) (o : BinaryOperator) (e : Expr) → operation_of (roll-Operation (record { token = t; operator = o; operand = e })) ≡ record { token = t; operator = o; operand = tree_of e }
 unfolding argument_of arm_of body_of class_of element_of form_of member_of statement_of suffix_of part_of arguments_of tree_of operation_of parameter_of
-operation-made o e = fold-roll-Operation model.Item model.Item model.Body model.ClassReference model.Item model.Form model.MemberName model.Statement model.Step model.Step model.Items model.Tree (BinaryOperator × model.Tree) model.Item
-    argument_step arm_step body_step class_step element_step form_step member_step statement_step suffix_step part_step arguments_step expr_step operation_step parameter_step (record { operator = o; operand = e })
+operation-made t o e = fold-roll-Operation model.Item model.Item model.Body model.ClassReference model.Item model.Form model.MemberName model.Statement model.Step model.Step model.Items model.Tree Operated model.Item
+    argument_step arm_step body_step class_step element_step form_step member_step statement_step suffix_step part_step arguments_step expr_step operation_step parameter_step (record { token = t; operator = o; operand = e })
 
 pub parameter-made : (v : Option Visibility) (type : Option TypeTree) (reference : Bool) (variadic : Bool) (t : Token) (value : Option Expr) → parameter_of (roll-Parameter (record { visibility = v; declared = type; by_reference = reference; is_variadic = variadic; variable = t; default = value })) ≡ model.Parameter v (may_type type) reference variadic t (default_of (option_map tree_of value))
 unfolding argument_of arm_of body_of class_of element_of form_of member_of statement_of suffix_of part_of arguments_of tree_of operation_of parameter_of
-parameter-made v type reference variadic t None = fold-roll-Parameter model.Item model.Item model.Body model.ClassReference model.Item model.Form model.MemberName model.Statement model.Step model.Step model.Items model.Tree (BinaryOperator × model.Tree) model.Item
+parameter-made v type reference variadic t None = fold-roll-Parameter model.Item model.Item model.Body model.ClassReference model.Item model.Form model.MemberName model.Statement model.Step model.Step model.Items model.Tree Operated model.Item
     argument_step arm_step body_step class_step element_step form_step member_step statement_step suffix_step part_step arguments_step expr_step operation_step parameter_step (record { visibility = v; declared = type; by_reference = reference; is_variadic = variadic; variable = t; default = None })
-parameter-made v type reference variadic t (Some value) = fold-roll-Parameter model.Item model.Item model.Body model.ClassReference model.Item model.Form model.MemberName model.Statement model.Step model.Step model.Items model.Tree (BinaryOperator × model.Tree) model.Item
+parameter-made v type reference variadic t (Some value) = fold-roll-Parameter model.Item model.Item model.Body model.ClassReference model.Item model.Form model.MemberName model.Statement model.Step model.Step model.Items model.Tree Operated model.Item
     argument_step arm_step body_step class_step element_step form_step member_step statement_step suffix_step part_step arguments_step expr_step operation_step parameter_step (record { visibility = v; declared = type; by_reference = reference; is_variadic = variadic; variable = t; default = (Some value) })
 
 pub ruleset layers = (argument-Positional, argument-Spread, argument-Named, arm-Conditions, arm-Default, body-Held, body-Read, class-Named, class-Variable, class-Scoped, class-Computed, element-Spread, element-Value, element-Keyed, form-Leaf, form-Brackets, form-Array, form-IsSet, form-Empty, form-Exit, form-New, form-Match, form-Closure, form-Arrow, form-Text, form-Post, form-Prefix, form-Assignment, form-Chain, form-Binary, form-Conditional, member-Named, member-Computed, statement-Expression, suffix-Push, suffix-Index, suffix-Property, suffix-Scoped, suffix-Call, suffix-Increment, suffix-Decrement, part-Token, part-Expression, arguments-made, tree-made, operation-made, parameter-made)
@@ -264,17 +264,17 @@ pub ruleset layers = (argument-Positional, argument-Spread, argument-Named, arm-
 
 pub arguments_fields : (es : Arguments) → arguments_of es ≡ listed (map argument_of es.list) es.comma
 unfolding argument_of arm_of body_of class_of element_of form_of member_of statement_of suffix_of part_of arguments_of tree_of operation_of parameter_of
-arguments_fields es = fold_out-Arguments model.Item model.Item model.Body model.ClassReference model.Item model.Form model.MemberName model.Statement model.Step model.Step model.Items model.Tree (BinaryOperator × model.Tree) model.Item
+arguments_fields es = fold_out-Arguments model.Item model.Item model.Body model.ClassReference model.Item model.Form model.MemberName model.Statement model.Step model.Step model.Items model.Tree Operated model.Item
     argument_step arm_step body_step class_step element_step form_step member_step statement_step suffix_step part_step arguments_step expr_step operation_step parameter_step es
 
 pub tree_fields : (e : Expr) → tree_of e ≡ model.node e.first (form_of e.form)
 unfolding argument_of arm_of body_of class_of element_of form_of member_of statement_of suffix_of part_of arguments_of tree_of operation_of parameter_of
-tree_fields e = fold_out-Expr model.Item model.Item model.Body model.ClassReference model.Item model.Form model.MemberName model.Statement model.Step model.Step model.Items model.Tree (BinaryOperator × model.Tree) model.Item
+tree_fields e = fold_out-Expr model.Item model.Item model.Body model.ClassReference model.Item model.Form model.MemberName model.Statement model.Step model.Step model.Items model.Tree Operated model.Item
     argument_step arm_step body_step class_step element_step form_step member_step statement_step suffix_step part_step arguments_step expr_step operation_step parameter_step e
 
-pub operation_fields : (o : Operation) → operation_of o ≡ (o.operator, tree_of o.operand)
+pub operation_fields : (o : Operation) → operation_of o ≡ record { token = o.token; operator = o.operator; operand = tree_of o.operand }
 unfolding argument_of arm_of body_of class_of element_of form_of member_of statement_of suffix_of part_of arguments_of tree_of operation_of parameter_of
-operation_fields o = fold_out-Operation model.Item model.Item model.Body model.ClassReference model.Item model.Form model.MemberName model.Statement model.Step model.Step model.Items model.Tree (BinaryOperator × model.Tree) model.Item
+operation_fields o = fold_out-Operation model.Item model.Item model.Body model.ClassReference model.Item model.Form model.MemberName model.Statement model.Step model.Step model.Items model.Tree Operated model.Item
     argument_step arm_step body_step class_step element_step form_step member_step statement_step suffix_step part_step arguments_step expr_step operation_step parameter_step o
 
 pub parameter_fields : (p : Parameter) → parameter_of p ≡ model.Parameter (out-Parameter p).visibility (may_type (out-Parameter p).declared) (out-Parameter p).by_reference

@@ -1,2 +1,4 @@
 pub mod Depths
+pub mod ExitLemmas
 pub mod Layers
+pub mod TargetLemmas

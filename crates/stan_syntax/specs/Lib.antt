@@ -2,3 +2,5 @@
 pub mod Tree
 -- what functions inside promise each other
 pub mod Depth
+pub mod Exit
+pub mod Targets

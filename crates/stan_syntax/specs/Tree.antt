@@ -1,8 +1,7 @@
 -- The tree of the model that a value of the program stands for, by one layer of it at a time.
-use Rattle.std.specs.Prelude.{ℕ, Bool, List, [], ◌∷◌, Option, Some, None, map}
-use Rattle.stan_model_grammar.specs.declared.operators.BinaryOperator.{BinaryOperator}
-use Rattle.stan_model_grammar.specs.Strata.{binary_stratum}
+use Rattle.std.specs.Prelude.{Option, Some, None, map}
 use Rattle.stan_model_grammar.specs.Trees as model
+use Rattle.stan_model_grammar.specs.TreeLists.{Operated, steps, listed, operation_steps, chain_stratum, may_be_called, default_of, statements}
 use Rattle.stan_syntax.specs.declared.tree.TypeTree.{TypeTree}
 use Rattle.stan_syntax.specs.declared.tree.TypeTree.TheVariants as types
 use Rattle.stan_syntax.specs.declared.tree.Expr.{Expr}
@@ -33,7 +32,7 @@ may_type (Some type) = Some (type_of type)
 -- ---- one layer of a value, where its parts are those of the model
 
 abbrev pub Layer : ((A B C D E F G H I J K L M N : Type 0) → Type 0) → Type 0
-Layer T = T model.Item model.Item model.Body model.ClassReference model.Item model.Form model.MemberName model.Statement model.Step model.Step model.Items model.Tree (BinaryOperator × model.Tree) model.Item
+Layer T = T model.Item model.Item model.Body model.ClassReference model.Item model.Form model.MemberName model.Statement model.Step model.Step model.Items model.Tree Operated model.Item
 
 abbrev pub argument_step : Layer Argument-F → model.Item
 argument_step (Argument-F.Positional e) = model.Positional e
@@ -76,7 +75,7 @@ form_step (Form-F.Post e ss) = model.Post e (steps ss)
 form_step (Form-F.Prefix o e) = model.Prefix o e
 form_step (Form-F.Assignment target o e) = model.Assignment target o e
 form_step (Form-F.Chain e os) = model.Chain (chain_stratum os) e (operation_steps os)
-form_step (Form-F.Binary d o e) = model.Binary d o e
+form_step (Form-F.Binary d t o e) = model.Binary d t o e
 form_step (Form-F.Conditional c d e) = model.Conditional c d e
 
 abbrev pub member_step : Layer MemberName-F → model.MemberName
@@ -105,8 +104,8 @@ arguments_step es = listed es.list es.comma
 abbrev pub expr_step : Layer Expr-F → model.Tree
 expr_step e = model.node e.first e.form
 
-abbrev pub operation_step : Layer Operation-F → BinaryOperator × model.Tree
-operation_step o = (o.operator, o.operand)
+abbrev pub operation_step : Layer Operation-F → Operated
+operation_step o = record { token = o.token; operator = o.operator; operand = o.operand }
 
 abbrev pub parameter_step : Layer Parameter-F → model.Item
 parameter_step p = model.Parameter p.visibility (may_type p.declared) p.by_reference p.is_variadic p.variable (default_of p.default)
@@ -114,57 +113,57 @@ parameter_step p = model.Parameter p.visibility (may_type p.declared) p.by_refer
 -- ---- whole values
 
 unfoldable pub tree_of : Expr → model.Tree
-tree_of = folds.fold-Expr model.Item model.Item model.Body model.ClassReference model.Item model.Form model.MemberName model.Statement model.Step model.Step model.Items model.Tree (BinaryOperator × model.Tree) model.Item
+tree_of = folds.fold-Expr model.Item model.Item model.Body model.ClassReference model.Item model.Form model.MemberName model.Statement model.Step model.Step model.Items model.Tree Operated model.Item
     argument_step arm_step body_step class_step element_step form_step member_step statement_step suffix_step part_step arguments_step expr_step operation_step parameter_step
 
 unfoldable pub form_of : Form → model.Form
-form_of = folds.fold-Form model.Item model.Item model.Body model.ClassReference model.Item model.Form model.MemberName model.Statement model.Step model.Step model.Items model.Tree (BinaryOperator × model.Tree) model.Item
+form_of = folds.fold-Form model.Item model.Item model.Body model.ClassReference model.Item model.Form model.MemberName model.Statement model.Step model.Step model.Items model.Tree Operated model.Item
     argument_step arm_step body_step class_step element_step form_step member_step statement_step suffix_step part_step arguments_step expr_step operation_step parameter_step
 
 unfoldable pub arguments_of : Arguments → model.Items
-arguments_of = folds.fold-Arguments model.Item model.Item model.Body model.ClassReference model.Item model.Form model.MemberName model.Statement model.Step model.Step model.Items model.Tree (BinaryOperator × model.Tree) model.Item
+arguments_of = folds.fold-Arguments model.Item model.Item model.Body model.ClassReference model.Item model.Form model.MemberName model.Statement model.Step model.Step model.Items model.Tree Operated model.Item
     argument_step arm_step body_step class_step element_step form_step member_step statement_step suffix_step part_step arguments_step expr_step operation_step parameter_step
 
 unfoldable pub argument_of : Argument → model.Item
-argument_of = folds.fold-Argument model.Item model.Item model.Body model.ClassReference model.Item model.Form model.MemberName model.Statement model.Step model.Step model.Items model.Tree (BinaryOperator × model.Tree) model.Item
+argument_of = folds.fold-Argument model.Item model.Item model.Body model.ClassReference model.Item model.Form model.MemberName model.Statement model.Step model.Step model.Items model.Tree Operated model.Item
     argument_step arm_step body_step class_step element_step form_step member_step statement_step suffix_step part_step arguments_step expr_step operation_step parameter_step
 
 unfoldable pub element_of : Element → model.Item
-element_of = folds.fold-Element model.Item model.Item model.Body model.ClassReference model.Item model.Form model.MemberName model.Statement model.Step model.Step model.Items model.Tree (BinaryOperator × model.Tree) model.Item
+element_of = folds.fold-Element model.Item model.Item model.Body model.ClassReference model.Item model.Form model.MemberName model.Statement model.Step model.Step model.Items model.Tree Operated model.Item
     argument_step arm_step body_step class_step element_step form_step member_step statement_step suffix_step part_step arguments_step expr_step operation_step parameter_step
 
 unfoldable pub parameter_of : Parameter → model.Item
-parameter_of = folds.fold-Parameter model.Item model.Item model.Body model.ClassReference model.Item model.Form model.MemberName model.Statement model.Step model.Step model.Items model.Tree (BinaryOperator × model.Tree) model.Item
+parameter_of = folds.fold-Parameter model.Item model.Item model.Body model.ClassReference model.Item model.Form model.MemberName model.Statement model.Step model.Step model.Items model.Tree Operated model.Item
     argument_step arm_step body_step class_step element_step form_step member_step statement_step suffix_step part_step arguments_step expr_step operation_step parameter_step
 
 unfoldable pub arm_of : Arm → model.Item
-arm_of = folds.fold-Arm model.Item model.Item model.Body model.ClassReference model.Item model.Form model.MemberName model.Statement model.Step model.Step model.Items model.Tree (BinaryOperator × model.Tree) model.Item
+arm_of = folds.fold-Arm model.Item model.Item model.Body model.ClassReference model.Item model.Form model.MemberName model.Statement model.Step model.Step model.Items model.Tree Operated model.Item
     argument_step arm_step body_step class_step element_step form_step member_step statement_step suffix_step part_step arguments_step expr_step operation_step parameter_step
 
 unfoldable pub class_of : ClassReference → model.ClassReference
-class_of = folds.fold-ClassReference model.Item model.Item model.Body model.ClassReference model.Item model.Form model.MemberName model.Statement model.Step model.Step model.Items model.Tree (BinaryOperator × model.Tree) model.Item
+class_of = folds.fold-ClassReference model.Item model.Item model.Body model.ClassReference model.Item model.Form model.MemberName model.Statement model.Step model.Step model.Items model.Tree Operated model.Item
     argument_step arm_step body_step class_step element_step form_step member_step statement_step suffix_step part_step arguments_step expr_step operation_step parameter_step
 
 unfoldable pub suffix_of : Suffix → model.Step
-suffix_of = folds.fold-Suffix model.Item model.Item model.Body model.ClassReference model.Item model.Form model.MemberName model.Statement model.Step model.Step model.Items model.Tree (BinaryOperator × model.Tree) model.Item
+suffix_of = folds.fold-Suffix model.Item model.Item model.Body model.ClassReference model.Item model.Form model.MemberName model.Statement model.Step model.Step model.Items model.Tree Operated model.Item
     argument_step arm_step body_step class_step element_step form_step member_step statement_step suffix_step part_step arguments_step expr_step operation_step parameter_step
 
 unfoldable pub member_of : MemberName → model.MemberName
-member_of = folds.fold-MemberName model.Item model.Item model.Body model.ClassReference model.Item model.Form model.MemberName model.Statement model.Step model.Step model.Items model.Tree (BinaryOperator × model.Tree) model.Item
+member_of = folds.fold-MemberName model.Item model.Item model.Body model.ClassReference model.Item model.Form model.MemberName model.Statement model.Step model.Step model.Items model.Tree Operated model.Item
     argument_step arm_step body_step class_step element_step form_step member_step statement_step suffix_step part_step arguments_step expr_step operation_step parameter_step
 
-unfoldable pub operation_of : Operation → BinaryOperator × model.Tree
-operation_of = folds.fold-Operation model.Item model.Item model.Body model.ClassReference model.Item model.Form model.MemberName model.Statement model.Step model.Step model.Items model.Tree (BinaryOperator × model.Tree) model.Item
+unfoldable pub operation_of : Operation → Operated
+operation_of = folds.fold-Operation model.Item model.Item model.Body model.ClassReference model.Item model.Form model.MemberName model.Statement model.Step model.Step model.Items model.Tree Operated model.Item
     argument_step arm_step body_step class_step element_step form_step member_step statement_step suffix_step part_step arguments_step expr_step operation_step parameter_step
 
 unfoldable pub part_of : TextPart → model.Step
-part_of = folds.fold-TextPart model.Item model.Item model.Body model.ClassReference model.Item model.Form model.MemberName model.Statement model.Step model.Step model.Items model.Tree (BinaryOperator × model.Tree) model.Item
+part_of = folds.fold-TextPart model.Item model.Item model.Body model.ClassReference model.Item model.Form model.MemberName model.Statement model.Step model.Step model.Items model.Tree Operated model.Item
     argument_step arm_step body_step class_step element_step form_step member_step statement_step suffix_step part_step arguments_step expr_step operation_step parameter_step
 
 unfoldable pub body_of : Body → model.Body
-body_of = folds.fold-Body model.Item model.Item model.Body model.ClassReference model.Item model.Form model.MemberName model.Statement model.Step model.Step model.Items model.Tree (BinaryOperator × model.Tree) model.Item
+body_of = folds.fold-Body model.Item model.Item model.Body model.ClassReference model.Item model.Form model.MemberName model.Statement model.Step model.Step model.Items model.Tree Operated model.Item
     argument_step arm_step body_step class_step element_step form_step member_step statement_step suffix_step part_step arguments_step expr_step operation_step parameter_step
 
 unfoldable pub statement_of : Stmt → model.Statement
-statement_of = folds.fold-Stmt model.Item model.Item model.Body model.ClassReference model.Item model.Form model.MemberName model.Statement model.Step model.Step model.Items model.Tree (BinaryOperator × model.Tree) model.Item
+statement_of = folds.fold-Stmt model.Item model.Item model.Body model.ClassReference model.Item model.Form model.MemberName model.Statement model.Step model.Step model.Items model.Tree Operated model.Item
     argument_step arm_step body_step class_step element_step form_step member_step statement_step suffix_step part_step arguments_step expr_step operation_step parameter_step

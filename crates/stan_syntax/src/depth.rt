@@ -27,31 +27,6 @@ impl Expr {
     {
         expr_depth(self)
     }
-
-    /// Whether it is an operator with its operands.
-    pub fn is_operation(&self) -> bool
-        ensures { result ≡ model.is_operation (tree_of self.now) }
-    {
-        match &self.form {
-            Form::Leaf(_) => false,
-            Form::Brackets(_) => false,
-            Form::Array { .. } => false,
-            Form::IsSet { .. } => false,
-            Form::Empty(_) => false,
-            Form::Exit(_) => false,
-            Form::New(..) => false,
-            Form::Match { .. } => false,
-            Form::Closure { .. } => false,
-            Form::Arrow { .. } => false,
-            Form::Text(_) => false,
-            Form::Post(..) => false,
-            Form::Prefix(..) => true,
-            Form::Assignment(..) => true,
-            Form::Chain(..) => true,
-            Form::Binary(..) => true,
-            Form::Conditional(..) => true,
-        }
-    }
 }
 
 fn captures_depth(captures: &[Token]) -> u32
@@ -129,7 +104,7 @@ fn form_depth(form: &Form) -> u32
         Form::Chain(e, operations) => {
             left_depth(e.get()).max(operations_depth(operations.as_slice()))
         }
-        Form::Binary(left, _, right) => {
+        Form::Binary(left, _, _, right) => {
             left_depth(left.get()).max(expr_depth(right.get()).saturating_add(1))
         }
         Form::Conditional(condition, then, otherwise) => expr_depth(condition.get())
@@ -311,7 +286,7 @@ fn member_depth(name: &MemberName) -> u32
 
 #[cycle(depths)]
 fn operations_depth(operations: &[Operation]) -> u32
-    ensures { result ≡ min (greatest (λ x. model.depth (operation_of x).1 + 1) operations.now) (2 ^ 32 - 1) }
+    ensures { result ≡ min (greatest (λ x. model.depth (operation_of x).operand + 1) operations.now) (2 ^ 32 - 1) }
 {
     let mut most = 0;
     for operation in operations {

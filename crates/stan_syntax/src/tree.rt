@@ -76,8 +76,8 @@ pub enum Form {
     Assignment(Boxed<Expr>, AssignmentOperator, Boxed<Expr>),
     /// Operators of one stratum from the left: the first operand, and the operators with their operands.
     Chain(Boxed<Expr>, Items<Operation>),
-    /// An operator that makes no chain.
-    Binary(Boxed<Expr>, BinaryOperator, Boxed<Expr>),
+    /// An operator that makes no chain, with the token at which it begins.
+    Binary(Boxed<Expr>, Token, BinaryOperator, Boxed<Expr>),
     /// `? :`
     Conditional(Boxed<Expr>, Boxed<Expr>, Boxed<Expr>),
 }
@@ -188,6 +188,8 @@ pub enum MemberName {
 #[cycle(tree)]
 #[derive(Drop)]
 pub struct Operation {
+    /// The token at which the operator begins.
+    pub token: Token,
     pub operator: BinaryOperator,
     pub operand: Expr,
 }

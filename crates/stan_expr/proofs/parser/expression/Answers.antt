@@ -2,7 +2,8 @@ use Rattle.std.proofs.Common.{◌≡◌, ◌-◌, arith, sym, ap, ◌∙◌, tru
 use Rattle.stan_model_grammar.specs.Depth.{depth}
 use Rattle.stan_model_grammar.specs.Strata.{kind_at, is_end}
 use Rattle.stan_syntax.specs.Tree.{tree_of}
-use Rattle.stan_expr.proofs.Answer.{has_tree, too_deep, none_read, same_read, is_read, not_both, as_true}
+use Rattle.stan_expr_takes.proofs.Takes.{has_tree}
+use Rattle.stan_expr.proofs.Answer.{too_deep, none_read, same_read, is_read, not_both, as_true}
 use Rattle.stan_expr.proofs.parser.expression.Goals as goal
 
 pub returns-then-levels-gt-MAX_DEPTH : goal.returns-then-levels-gt-MAX_DEPTH

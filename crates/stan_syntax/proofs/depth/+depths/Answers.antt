@@ -118,7 +118,7 @@ member_depth-returns-in-Computed t c = rw (c.in-Computed.is, member-Computed) (g
 
 pub operations_depth-loop-operation-preserved : goal.operations_depth-loop-operation-preserved
 operations_depth-loop-operation-preserved t c =
-    rw (greatest_more (λ x. depth (operation_of x).1 + 1) c.args.operations.now c.loop-operation.operation-index c.operation-item.result c.loop-operation-test.true c.operation-item.is, operation_fields) (omega arith)
+    rw (greatest_more (λ x. depth (operation_of x).operand + 1) c.args.operations.now c.loop-operation.operation-index c.operation-item.result c.loop-operation-test.true c.operation-item.is, operation_fields) (omega arith)
 
 pub parameter_depth-returns-in-None : goal.parameter_depth-returns-in-None
 parameter_depth-returns-in-None t c = rw (parameter_fields, c.in-None.is) (grind arith)

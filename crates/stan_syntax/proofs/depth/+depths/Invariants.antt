@@ -17,7 +17,7 @@ abbrev pub invariant-exprs_depth-loop-e : goal.invariant-exprs_depth-loop-e
 invariant-exprs_depth-loop-e l = l.most ≡ min (greatest (λ e. depth (tree_of e)) (take l.e-index l.es)) (2 ^ 32 - 1)
 
 abbrev pub invariant-operations_depth-loop-operation : goal.invariant-operations_depth-loop-operation
-invariant-operations_depth-loop-operation l = l.most ≡ min (greatest (λ x. depth (operation_of x).1 + 1) (take l.operation-index l.operations)) (2 ^ 32 - 1)
+invariant-operations_depth-loop-operation l = l.most ≡ min (greatest (λ x. depth (operation_of x).operand + 1) (take l.operation-index l.operations)) (2 ^ 32 - 1)
 
 abbrev pub invariant-parameters_depth-loop-parameter : goal.invariant-parameters_depth-loop-parameter
 invariant-parameters_depth-loop-parameter l = l.most ≡ min (greatest (λ x. item_depth (parameter_of x)) (take l.parameter-index l.parameters)) (2 ^ 32 - 1)

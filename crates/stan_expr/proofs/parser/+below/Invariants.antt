@@ -1,4 +1,0 @@
-use Rattle.stan_expr.proofs.parser.+below.Given as goal
-
-abbrev pub decreases-below : goal.decreases-below
-decreases-below l = l.depth

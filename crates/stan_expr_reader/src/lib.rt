@@ -1,0 +1,10 @@
+//! Expressions, read from the tokens with at most so many levels.
+#![tactic(auto)]
+
+mod classes;
+mod forms;
+mod operands;
+mod operators;
+mod parser;
+
+pub use parser::{below, expression_at};

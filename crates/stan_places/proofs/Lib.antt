@@ -1,0 +1,3 @@
+pub mod BraceLemmas
+pub mod Loops
+pub mod PlaceLemmas
