@@ -10,3 +10,7 @@ pub mod MarkLemmas
 pub mod OrderLemmas
 pub mod RunEndLemmas
 pub mod TokenLemmas
+pub mod EndLemmas
+pub mod TextEndLemmas
+pub mod LexemeEndLemmas
+pub mod ExistLemmas

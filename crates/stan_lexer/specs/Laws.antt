@@ -7,6 +7,10 @@ use Rattle.stan_model_grammar.specs.Runs.{run_end, IsRun}
 use Rattle.stan_model_grammar.specs.Marks.{marks, mark}
 use Rattle.stan_model_grammar.specs.Tokens.{AreTokens}
 
+-- Every source has tokens, whatever its bytes.
+abbrev pub EverySourceHasTokens : Type 0
+EverySourceHasTokens = (source : List ℕ) → (ts : List Token) × AreTokens source ts
+
 -- A source has one list of tokens.
 abbrev pub OneTokenList : Type 0
 OneTokenList = (source : List ℕ) (ts us : List Token) → AreTokens source ts → AreTokens source us → ts ≡ us

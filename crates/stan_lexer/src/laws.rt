@@ -1,6 +1,11 @@
 //! Laws of the definitions: each is the contract of a function that does nothing.
 
-ghost use Rattle.stan_lexer.specs.Laws.{OneTokenList, TokensStandInOrder, LongestMarkIsRead, RunsEndWhereTheTestFails};
+ghost use Rattle.stan_lexer.specs.Laws.{EverySourceHasTokens, OneTokenList, TokensStandInOrder, LongestMarkIsRead, RunsEndWhereTheTestFails};
+
+/// Every source has tokens, whatever its bytes.
+pub fn every_source_has_tokens()
+    ensures { EverySourceHasTokens }
+{}
 
 /// A source has one list of tokens.
 pub fn one_token_list()

@@ -16,10 +16,6 @@ mod opening;
 mod parts;
 mod quotes;
 mod runs;
-#[cfg(test)]
-mod slow;
-#[cfg(test)]
-mod tests;
 mod tokens;
 mod values;
 mod words;

@@ -91,7 +91,7 @@ fn digits(source: &[u8], base: Base, from: usize) -> (TokenKind, usize)
 }
 
 // The longest integer that begins with a digit, by its kind and its end.
-#[tactic(auto, using(stan_lexer::proofs::RunEndLemmas::run_end_begins), unfolding(stan_model_grammar::specs::Numbers::integer))]
+#[tactic(auto, using(crate::proofs::RunEndLemmas::run_end_begins), unfolding(stan_model_grammar::specs::Numbers::integer))]
 fn integer(source: &[u8], at: usize) -> (TokenKind, usize)
     requires within { at < length source.now }
     requires digit { IsTrue (is_digit (slice_index source.now at)) }

@@ -1,7 +1,7 @@
 //! Plain tests of texts, heredocs and comments, by all their bytes and those behind them.
 
 use super::words::{begins_word, continues_word, is_integer, is_variable, is_word};
-use crate::TokenKind;
+use stan_model_grammar::token::TokenKind;
 
 // Whether what stands behind some bytes of a text is escaped: an odd number of `\` ends them.
 fn escapes(before: &str) -> bool {

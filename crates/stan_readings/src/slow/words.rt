@@ -1,7 +1,6 @@
 //! Plain tests of words, numbers, casts and marks, by all their bytes.
 
-use crate::TokenKind;
-use stan_model_grammar::token::{CASTS, KEYWORDS, MARKS};
+use stan_model_grammar::token::{CASTS, KEYWORDS, MARKS, TokenKind};
 
 fn row_of(rows: &[(&str, TokenKind)], text: &str) -> Option<TokenKind> {
     for (row, kind) in rows {
