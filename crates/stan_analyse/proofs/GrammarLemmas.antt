@@ -9,7 +9,7 @@ use Rattle.stan_model_grammar.specs.Expressions.{Is, Stands}
 use Rattle.stan_model_grammar.specs.Takes.{IsTreeOf}
 use Rattle.stan_model_grammar.specs.Sites.{HeldBody, sites, bodies_among}
 use Rattle.stan_model_grammar.specs.Files.{Statement, Expression, Statements, no_statement, statement, Bodies, no_body, body, Top, Function, Plain, Closing, ends_statement, ReadsStatement, ReadsStatements, ReadsBodies, ReadsTop, ReadsTops, SpellsFile, IsFront, IsLongestFront, goes_on}
-use Rattle.stan_expr.proofs.Answer.{one_end}
+use Rattle.stan_expr_takes.proofs.Takes.{one_end}
 use Rattle.stan_expr_law.proofs.TreeLemmas.{one_tree}
 use Rattle.stan_expr_rules.proofs.InsideLemmas.{tree_inside, kind_inside, is_inside}
 use Rattle.stan_analyse.specs.Statements.{push}
@@ -50,11 +50,6 @@ module _ (ts : List Token) where
       let first = statement_after levels s from r.0 r.1 in
       omega (arith, first.0, statements_after levels ss r.0 to r.2)
 
-  -- Statements that begin in the list end in it, or right behind it.
-  pub statements_within : (levels : ℕ) (ss : Statements) (from to : ℕ) → from ≤ length ts → ReadsStatements ts levels ss from to → to ≤ length ts
-  statements_within levels no_statement from to le r = omega (arith, le, r)
-  statements_within levels (statement s ss) from to le r = statements_within levels ss r.0 to (statement_after levels s from r.0 r.1).1 r.2
-
   -- ---- what begins a statement
 
   pub statement_starts : (levels : ℕ) (s : Statement) (at to : ℕ) → ReadsStatement ts levels s at to → starts (kind_at ts at) (kind_at ts (at + 1)) ≡ true
@@ -86,12 +81,6 @@ module _ (ts : List Token) where
   top_after Closing from to r =
       let inside = is_inside ts from kinds.ClosingTag (λ e. absurd cc) r.0 in
       (omega (arith, r.1), omega (arith, inside, r.1))
-
-  pub tops_after : (tops : List Top) (from to : ℕ) → ReadsTops ts tops from to → from ≤ to
-  tops_after [] from to r = omega (arith, r)
-  tops_after (top ∷ tops) from to r =
-      let first = top_after top from r.0 r.1 in
-      omega (arith, first.0, tops_after tops r.0 to r.2)
 
   pub tops_within : (tops : List Top) (from to : ℕ) → from ≤ length ts → ReadsTops ts tops from to → to ≤ length ts
   tops_within [] from to le r = omega (arith, le, r)

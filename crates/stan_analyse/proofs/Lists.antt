@@ -4,10 +4,9 @@ use Rattle.std.specs.List.{flat_map}
 use Rattle.std.specs.Prelude.{map}
 use Rattle.std.proofs.lemmas.Grind.{flat_map-append}
 use Rattle.std.proofs.lemmas.List.{take_more}
-use Rattle.stan_model_grammar.specs.declared.operators.BinaryOperator.{BinaryOperator}
 use Rattle.stan_model_grammar.specs.Trees as model
 use Rattle.stan_model_grammar.specs.Sites.{deeper, sites, items_sites, item_sites, steps_sites, step_sites, statements_sites, statement_sites}
-use Rattle.stan_model_grammar.specs.TreeLists.{listed, furthers, steps, operation_steps, statements}
+use Rattle.stan_model_grammar.specs.TreeLists.{Operated, listed, furthers, steps, operation_steps, statements}
 
 -- nothing is found
 pub none : {A : Type 0} (found : List A) → found ≡ found ++ []
@@ -20,9 +19,9 @@ pub steps_flat : {A : Type 0} (n : ℕ) (g : A → model.Step) (xs : List A) →
 steps_flat n g [] = refl
 steps_flat n g (x ∷ xs) = ap (λ found. step_sites n (g x) ++ found) (steps_flat n g xs)
 
-pub operations_flat : {A : Type 0} (n : ℕ) (g : A → BinaryOperator × model.Tree) (xs : List A) → steps_sites n (operation_steps (map g xs)) ≡ flat_map (λ x. sites (deeper n) (g x).1) xs
+pub operations_flat : {A : Type 0} (n : ℕ) (g : A → Operated) (xs : List A) → steps_sites n (operation_steps (map g xs)) ≡ flat_map (λ x. sites (deeper n) (g x).operand) xs
 operations_flat n g [] = refl
-operations_flat n g (x ∷ xs) = ap (λ found. sites (deeper n) (g x).1 ++ found) (operations_flat n g xs)
+operations_flat n g (x ∷ xs) = ap (λ found. sites (deeper n) (g x).operand ++ found) (operations_flat n g xs)
 
 pub statements_flat : {A : Type 0} (n : ℕ) (g : A → model.Statement) (xs : List A) → statements_sites n (statements (map g xs)) ≡ flat_map (λ x. statement_sites n (g x)) xs
 statements_flat n g [] = refl

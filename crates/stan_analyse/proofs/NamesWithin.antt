@@ -1,4 +1,4 @@
--- The names that a file calls and declares lie within its source, and the bodies of closures within its tokens.
+-- The names that a file calls and declares lie within its source.
 use Rattle.std.proofs.Common.{ℕ, ◌+◌, List, [], ◌∷◌, subst, sym}
 use Rattle.std.specs.List.{All, flat_map}
 use Rattle.std.proofs.lemmas.List.Elements.{All-nil, All-cons, All-append, All-filter, All-weaker, All-get_or}

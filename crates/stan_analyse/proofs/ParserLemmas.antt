@@ -15,7 +15,7 @@ use Rattle.stan_model_grammar.specs.Files.{Statement, Expression, Statements, no
 use Rattle.stan_model_facts.specs.Facts.{calls_of_statement, calls_of_statements, calls_of_bodies}
 use Rattle.stan_expr_rules.proofs.InsideLemmas.{tree_inside, kind_inside}
 use Rattle.stan_expr_law.proofs.TreeLemmas.{one_tree}
-use Rattle.stan_expr.proofs.Answer.{one_end}
+use Rattle.stan_expr_takes.proofs.Takes.{one_end}
 use Rattle.stan_analyse.specs.declared.sites.HeldBody as held_body
 use Rattle.stan_analyse.specs.declared.sites.Site as program
 use Rattle.stan_analyse.specs.declared.sites.Site.TheVariants.{Call, Body}

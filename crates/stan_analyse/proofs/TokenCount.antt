@@ -6,10 +6,9 @@ use Rattle.stan_model_grammar.specs.declared.token.Opening.{Opening}
 use Rattle.stan_model_grammar.specs.declared.token.Token.{Token}
 use Rattle.stan_model_grammar.specs.declared.token.TokenKind.{TokenKind}
 use Rattle.stan_model_grammar.specs.declared.token.TokenKind.TheVariants as kinds
-use Rattle.stan_model_grammar.specs.Runs.{run_end, blank_at}
-use Rattle.stan_model_grammar.specs.Tokens.{is_in_text, top, open_behind, next_start, is_bad, is_comment, is_attribute_start, is_attribute_end, renamed, as_kind, spanning, is_code, AreLexemes, joined, open_texts, IsOpenText, IsCut, has_opening, opening_start, AreTokens}
+use Rattle.stan_model_grammar.specs.Tokens.{top, open_behind, is_bad, is_comment, is_attribute_start, is_attribute_end, renamed, as_kind, spanning, is_code, AreLexemes, joined, open_texts, IsOpenText, IsCut, has_opening, opening_start, AreTokens}
 use Rattle.stan_model_grammar.specs.Reading.{AreCode}
-use Rattle.stan_lexer.proofs.RunEndLemmas.{run_end_rises}
+use Rattle.stan_lexer.proofs.OrderLemmas.{next_start_rises}
 
 abbrev IsFew : ℕ → List Token → Type 0
 IsFew limit ts = length ts ≤ limit
@@ -29,10 +28,6 @@ filter_few p (x ∷ xs) = omega (arith, kept_few (p x) x (filter p xs), filter_f
 -- ---- lexemes
 
 module _ (source : List ℕ) where
-  next_start_rises : (o : Option Opening) (at : ℕ) → at ≤ next_start source o at
-  unfolding next_start
-  next_start_rises o at = elim (is_in_text o) as (λ b. at ≤ cond b at (run_end source (blank_at source) at)) [ true ↦ omega arith | false ↦ run_end_rises source (blank_at source) at ]
-
   rest_few : (b : Bool) (end : ℕ) (stack : List Opening) (ts : List Token) → (AreLexemes source stack end ts → IsFew (length source - end) ts)
       → MatchBool b (ts ≡ []) (AreLexemes source stack end ts) → IsFew (length source - end) ts
   rest_few true end stack ts step v = subst (IsFew (length source - end)) (sym v) (omega arith)
@@ -43,7 +38,7 @@ module _ (source : List ℕ) where
   lexemes_few stack at [] v = omega arith
   lexemes_few stack at (t ∷ ts) v =
       let rest = rest_few (is_bad t.kind) t.end (open_behind t.kind stack) ts (lexemes_few (open_behind t.kind stack) t.end ts) v.4 in
-      omega (arith, v.0, v.1, v.2, next_start_rises (top stack) at, rest)
+      omega (arith, v.0, v.1, v.2, next_start_rises source (top stack) at, rest)
 
 -- ---- joined lexemes
 

@@ -1,8 +1,9 @@
 -- The sites of the model that values of the program stand for.
 use Rattle.std.specs.Prelude.{Bool, true, false, List, [], ◌∷◌, Option, Some, None}
-use Rattle.stan_model_grammar.specs.declared.operators.Leaf.TheVariants as leaves
+use Rattle.stan_model_grammar.specs.declared.operators.Production.{Production}
+use Rattle.stan_model_grammar.specs.declared.operators.Production.TheVariants as productions
 use Rattle.stan_model_grammar.specs.declared.token.Token.{Token}
-use Rattle.stan_model_grammar.specs.Trees.{Tree, node, Single, Steps, step, Call}
+use Rattle.stan_model_grammar.specs.Trees.{Tree, production, Steps, step, Call}
 use Rattle.stan_model_grammar.specs.Sites as model
 use Rattle.stan_analyse.specs.declared.sites.HeldBody.{HeldBody}
 use Rattle.stan_analyse.specs.declared.sites.Site.{Site}
@@ -22,9 +23,12 @@ abbrev pub call_of : Option Token → List model.Site
 call_of None = []
 call_of (Some t) = model.CallSite t ∷ []
 
+abbrev pub is_name_production : Production → Bool
+is_name_production productions.Name = true
+is_name_production _ = false
+
 abbrev pub is_name : Tree → Bool
-is_name (node t (Single leaves.Name)) = true
-is_name _ = false
+is_name e = is_name_production (production e)
 
 -- whether brackets with arguments stand first
 abbrev pub begins_with_call : Steps → Bool

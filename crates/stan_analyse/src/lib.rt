@@ -10,8 +10,6 @@ mod parser;
 mod reading;
 mod sites;
 mod spelling;
-#[cfg(test)]
-mod tests;
 mod tree;
 
 pub use analyst::PhpAnalyst;

@@ -14,7 +14,8 @@ use crate::sites::{HeldBody, Site, sites_of};
 use crate::tree::Names;
 use stan_base::OutOfMemory;
 use stan_model_grammar::token::{Token, TokenKind};
-use stan_expr::{Parsed, after, expression, kind_at, token_at};
+use stan_expr::{Parsed, expression};
+use stan_places::places::{after, kind_at, token_at};
 use stan_syntax::Expr;
 use std::alloc::Global;
 

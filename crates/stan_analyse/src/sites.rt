@@ -9,9 +9,10 @@ ghost use Rattle.stan_syntax.specs.Tree.{tree_of, form_of, arguments_of, argumen
 ghost use Rattle.stan_analyse.specs.Sites.{site_of, call_of, is_name, begins_with_call};
 
 use stan_base::OutOfMemory;
+use stan_model_grammar::operators::Production;
 use stan_model_grammar::token::Token;
 use stan_syntax::{
-    Argument, Arguments, Arm, Body, ClassReference, Element, Expr, Form, Leaf, MemberName,
+    Argument, Arguments, Arm, Body, ClassReference, Element, Expr, Form, MemberName,
     Operation, Parameter, Stmt, Suffix, TextPart,
 };
 use std::alloc::Global;
@@ -64,25 +65,7 @@ fn left_level(e: &Expr, level: u8) -> u8
 fn is_name(e: &Expr) -> bool
     ensures { result ≡ is_name (tree_of e.now) }
 {
-    match &e.form {
-        Form::Leaf(leaf) => *leaf == Leaf::Name,
-        Form::Brackets(_) => false,
-        Form::Array { .. } => false,
-        Form::IsSet { .. } => false,
-        Form::Empty(_) => false,
-        Form::Exit(_) => false,
-        Form::New(..) => false,
-        Form::Match { .. } => false,
-        Form::Closure { .. } => false,
-        Form::Arrow { .. } => false,
-        Form::Text(_) => false,
-        Form::Post(..) => false,
-        Form::Prefix(..) => false,
-        Form::Assignment(..) => false,
-        Form::Chain(..) => false,
-        Form::Binary(..) => false,
-        Form::Conditional(..) => false,
-    }
+    matches!(e.production(), Production::Name)
 }
 
 fn begins_with_call(suffixes: &[Suffix]) -> bool
@@ -185,7 +168,7 @@ fn form_sites(form: &Form, level: u8, found: &mut Vec<Site>) -> Result<(), OutOf
             expr_sites(e.get(), left_level(e.get(), level), found)?;
             operations_sites(operations.as_slice(), deeper(level), found)
         }
-        Form::Binary(left, _, right) => {
+        Form::Binary(left, _, _, right) => {
             expr_sites(left.get(), left_level(left.get(), level), found)?;
             expr_sites(right.get(), deeper(level), found)
         }
@@ -394,7 +377,7 @@ fn operations_sites(
     level: u8,
     found: &mut Vec<Site>,
 ) -> Result<(), OutOfMemory>
-    ensures { IfOk result (λ u. map site_of found.new.items ≡ map site_of found.old.items ++ flat_map (λ x. model.sites level (operation_of x).1) operations.now) }
+    ensures { IfOk result (λ u. map site_of found.new.items ≡ map site_of found.old.items ++ flat_map (λ x. model.sites level (operation_of x).operand) operations.now) }
 {
     for operation in operations {
         expr_sites(&operation.operand, level, found)?;

@@ -86,7 +86,7 @@ module _ (limit : ℕ) where
   cut_by false at ts us v r = subst (λ xs. Rise limit at xs) (sym v.4) (cut_rises at v.0 v.1 ts v.3 r)
 
 module _ (source : List ℕ) where
-  next_start_rises : (o : Option Opening) (at : ℕ) → at ≤ next_start source o at
+  pub next_start_rises : (o : Option Opening) (at : ℕ) → at ≤ next_start source o at
   unfolding next_start
   next_start_rises o at = elim (is_in_text o) as (λ b. at ≤ cond b at (run_end source (blank_at source) at)) [ true ↦ omega arith | false ↦ run_end_rises source (blank_at source) at ]
 

@@ -156,5 +156,5 @@ suffix_sites-returns-in-Call t c = rw (c.in-Call.is, suffix-Call) c.arguments_si
 
 pub operations_sites-loop-operation-preserved : goal.operations_sites-loop-operation-preserved
 operations_sites-loop-operation-preserved t c =
-    let more = flat_more (λ x. sites c.args.level (operation_of x).1) c.args.operations.now c.loop-operation.operation-index c.operation-item.result c.loop-operation-test.true c.operation-item.is in
+    let more = flat_more (λ x. sites c.args.level (operation_of x).operand) c.args.operations.now c.loop-operation.operation-index c.operation-item.result c.loop-operation-test.true c.operation-item.is in
     rw (more, operation_fields) (rw (c.loop-operation.invariant, append_assoc) at c.in_ok-expr_sites.ensures)

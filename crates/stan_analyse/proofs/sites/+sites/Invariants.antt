@@ -18,7 +18,7 @@ abbrev pub invariant-exprs_sites-loop-e : goal.invariant-exprs_sites-loop-e
 invariant-exprs_sites-loop-e l = map site_of l.found.items ≡ map site_of l.initial.found.items ++ flat_map (λ x. sites l.level (tree_of x)) (take l.e-index l.es)
 
 abbrev pub invariant-operations_sites-loop-operation : goal.invariant-operations_sites-loop-operation
-invariant-operations_sites-loop-operation l = map site_of l.found.items ≡ map site_of l.initial.found.items ++ flat_map (λ x. sites l.level (operation_of x).1) (take l.operation-index l.operations)
+invariant-operations_sites-loop-operation l = map site_of l.found.items ≡ map site_of l.initial.found.items ++ flat_map (λ x. sites l.level (operation_of x).operand) (take l.operation-index l.operations)
 
 abbrev pub invariant-parameters_sites-loop-parameter : goal.invariant-parameters_sites-loop-parameter
 invariant-parameters_sites-loop-parameter l = map site_of l.found.items ≡ map site_of l.initial.found.items ++ flat_map (λ x. item_sites l.level (parameter_of x)) (take l.parameter-index l.parameters)
