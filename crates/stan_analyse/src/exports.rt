@@ -6,8 +6,8 @@ ghost use Rattle.stan_table.specs.Table.{node_of};
 ghost use Rattle.stan_analyse.specs.Names.{IsWithin, function_node};
 
 use crate::spelling::spelling_of;
-use stan_model_grammar::token::Token;
 use stan_base::{Name, OutOfMemory};
+use stan_model_grammar::token::Token;
 use stan_table::{Exported, FunctionNode};
 use std::alloc::Global;
 

@@ -8,6 +8,7 @@ pub mod laws;
 mod lines;
 mod parser;
 mod reading;
+mod rules;
 mod sites;
 mod spelling;
 mod tree;

@@ -8,9 +8,9 @@ ghost use Rattle.stan_analyse.specs.Tree.{IsReadAs};
 use crate::parser::{Front, read_front, stop};
 use crate::tree::Reading;
 use bstr::ByteSlice;
-use stan_model_grammar::token::Token;
 use stan_base::{OutOfMemory, line_at};
 use stan_lexer::{code_tokens, lex};
+use stan_model_grammar::token::Token;
 use std::alloc::Global;
 
 /// The most bytes of a file that can be read.

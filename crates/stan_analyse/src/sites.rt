@@ -12,8 +12,8 @@ use stan_base::OutOfMemory;
 use stan_model_grammar::operators::Production;
 use stan_model_grammar::token::Token;
 use stan_syntax::{
-    Argument, Arguments, Arm, Body, ClassReference, Element, Expr, Form, MemberName,
-    Operation, Parameter, Stmt, Suffix, TextPart,
+    Argument, Arguments, Arm, Body, ClassReference, Element, Expr, Form, MemberName, Operation,
+    Parameter, Stmt, Suffix, TextPart,
 };
 use std::alloc::Global;
 
