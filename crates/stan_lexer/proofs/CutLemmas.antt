@@ -30,7 +30,3 @@ pub IsCut-at : (ts us : List Token) (k : ℕ) (t : Token) → IsOpenText ts k �
 IsCut-at ts us k t h e is =
     let stands : slice_get ts k ≡ Some t = slice_get_read ts (length ts) k t refl h.within e in
     rw (some_open ts k h) (k, t, h, stands, is)
-
--- the whole list, where no text is open
-pub IsCut-whole : (ts : List Token) → open_texts ts ≡ 0 → IsCut ts ts
-IsCut-whole ts e = rw e refl

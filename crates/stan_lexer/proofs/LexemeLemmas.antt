@@ -11,9 +11,6 @@ module _ (source : List ℕ) (from : ℕ) where
   abbrev pub AreLexemesUpTo : List Opening → ℕ → List Token → Type 0
   AreLexemesUpTo stack at ts = (tail : List Token) → AreLexemes source stack at tail → AreLexemes source [] from (ts ++ tail)
 
-  pub AreLexemesUpTo-none : AreLexemesUpTo [] from []
-  AreLexemesUpTo-none tail rest = rest
-
   pub AreLexemesUpTo-end : (stack : List Opening) (at : ℕ) (ts : List Token) → AreLexemesUpTo stack at ts → length source ≤ next_start source (top stack) at → AreLexemes source [] from ts
   AreLexemesUpTo-end stack at ts read le = rw append-nil at (read [] le)
 
@@ -21,9 +18,6 @@ module _ (source : List ℕ) (from : ℕ) where
       (some : t.start < t.end) (within : t.end ≤ length source) (is : lexeme source (top stack) t.start ≡ (t.kind, t.end)) where
     read_one : (tail : List Token) → MatchBool (is_bad t.kind) (tail ≡ []) (AreLexemes source (open_behind t.kind stack) t.end tail) → AreLexemes source [] from (ts ++ t ∷ tail)
     read_one tail rest = read (t ∷ tail) (start, some, within, is, rest)
-
-    pub AreLexemesUpTo-push : is_bad t.kind ≡ false → AreLexemesUpTo (open_behind t.kind stack) t.end (ts ++ t ∷ [])
-    AreLexemesUpTo-push good tail rest = rw append_assoc (read_one tail (rw good rest))
 
     -- Nothing is read behind a `Bad`.
     pub AreLexemes-push_bad : is_bad t.kind ≡ true → AreLexemes source [] from (ts ++ t ∷ [])

@@ -18,10 +18,6 @@ Rise limit at [] = Unit {0}
 Rise limit at (t ∷ ts) = (at ≤ t.start) × (t.start ≤ t.end) × (t.end ≤ limit) × Rise limit t.end ts
 
 module _ (limit : ℕ) where
-  Rise-from : (low at : ℕ) (ts : List Token) → low ≤ at → Rise limit at ts → Rise limit low ts
-  Rise-from low at [] le r = tt
-  Rise-from low at (t ∷ ts) le r = (omega (arith, r.0), r.1, r.2, r.3)
-
   abbrev IsWithin : ℕ → Token → Type 0
   IsWithin at t = (at ≤ t.start) × (t.start ≤ t.end) × (t.end ≤ limit)
 

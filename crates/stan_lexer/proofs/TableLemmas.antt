@@ -34,12 +34,6 @@ module _ (rows : List (Bor (List ℕ) × TokenKind)) (source : List ℕ) (at i :
       ≡ cond (starts_with nat_eq (drop at source) (get_or rows i d).0.now) ((get_or rows i d).1, at + length (get_or rows i d).0.now) (mark_among (map row_of (drop (i + 1) rows)) source at)
   mark_among_drop = rw (drop-cons rows i d, add-one i) refl
 
-  pub mark_among_found : starts_with nat_eq (drop at source) (get_or rows i d).0.now ≡ true → ((get_or rows i d).1, at + length (get_or rows i d).0.now) ≡ mark_among (map row_of (drop i rows)) source at
-  mark_among_found e = rw (mark_among_drop, e) refl
-
-  pub mark_among_passed : starts_with nat_eq (drop at source) (get_or rows i d).0.now ≡ false → mark_among (map row_of (drop (i + 1) rows)) source at ≡ mark_among (map row_of (drop i rows)) source at
-  mark_among_passed e = rw (mark_among_drop, e) refl
-
 -- Bytes don't begin with a mark whose first byte is another.
 pub starts_with_apart : (rest mark : List ℕ) → 0 < length mark → (slice_index rest 0 ≡ slice_index mark 0 → ⊥) → starts_with nat_eq rest mark ≡ false
 starts_with_apart rest [] some apart = absurd (omega arith)

@@ -13,9 +13,6 @@ module _ (quoted : Bool) where
   resolved_skip (suc n) (b ∷ bs) = resolved_skip n bs
 
   module _ (bytes : List ℕ) (at : ℕ) (lt : at < length bytes) where
-    pub resolved_byte : (get_or bytes at 0 == 92) ≡ false → get_or bytes at 0 ∷ resolved quoted 0 (drop (at + 1) bytes) ≡ resolved quoted 0 (drop at bytes)
-    resolved_byte e = rw (drop-cons bytes at 0, add-one at, e) refl
-
     resolved_step : (get_or bytes at 0 == 92) ≡ true → resolved quoted 0 (drop at bytes) ≡ (escape quoted (drop (at + 1) bytes)).0 ++ resolved quoted (escape quoted (drop (at + 1) bytes)).1 (drop (at + 1) bytes)
     resolved_step e = rw (drop-cons bytes at 0, add-one at, e) refl
 
