@@ -9,7 +9,7 @@ use Rattle.stan_model_grammar.specs.declared.token.TokenKind.{TokenKind}
 use Rattle.stan_model_grammar.specs.declared.token.TokenKind.TheVariants as kinds
 use Rattle.stan_model_grammar.specs.Strata.{kind_of, kind_at}
 use Rattle.stan_model_grammar.specs.Expressions.{Is, Stands}
-use Rattle.stan_model_grammar.specs.Files.{Statements, Top, Function, Plain, Closing, goes_on, ReadsTops}
+use Rattle.stan_model_grammar.specs.Files.{Statement, Statements, Top, Function, Plain, Closing, goes_on, ReadsStatement, ReadsTops}
 use Rattle.stan_model_facts.specs.Facts.{calls_of_top}
 use Rattle.stan_expr_rules.proofs.InsideLemmas.{kind_inside}
 use Rattle.stan_expr_rules.specs.Places.{after}
@@ -58,15 +58,15 @@ module _ (ts : List Token) where
   pub brace_within : (from : ℕ) (before after : List Token) (brace : ℕ) → BlockAt ts 1 from before after (Some brace) → brace < length ts
   brace_within from before after brace block = kind_inside ts brace (λ none. let here = block.1.1 in cc)
 
+  pub no_top : (at : ℕ) → ¬ (OpensFunction ts at) → ¬ (Is ts at kinds.ClosingTag) → ((s : Statement) (to : ℕ) → ReadsStatement ts 0 s at to → ⊥) → NoTopAt ts at
+  no_top at closed open_ended none (Function first name ss) to r = closed (r.2, r.4, r.5, r.6, r.7)
+  no_top at closed open_ended none (Plain s) to r = none s to r
+  no_top at closed open_ended none Closing to r = open_ended r.0
+
   pub top_from_statement : {E : Type 0} (at : ℕ) (before : program.Names) (calls : Vec Token Global) (found : Result (Option ℕ) E) → ¬ (OpensFunction ts at) → ¬ (Is ts at kinds.ClosingTag) → IfOk found (StatementAt ts 0 at before.called.items calls.items)
       → IfOk found (TopAt ts at before (record { declared = before.declared; called = calls }))
   top_from_statement at before calls (Err e) closed open_ended found = tt
-  top_from_statement at before calls (Ok None) closed open_ended found = none
-    where
-      none : NoTopAt ts at
-      none (Function first name ss) to r = closed (r.2, r.4, r.5, r.6, r.7)
-      none (Plain s) to r = found s to r
-      none Closing to r = open_ended r.0
+  top_from_statement at before calls (Ok None) closed open_ended found = no_top at closed open_ended found
   top_from_statement at before calls (Ok (Some to)) closed open_ended found = (Plain found.0, found.1, sym (append-nil before.declared.items), found.2)
 
   -- ---- one more top

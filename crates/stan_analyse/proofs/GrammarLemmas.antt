@@ -82,10 +82,6 @@ module _ (ts : List Token) where
       let inside = is_inside ts from kinds.ClosingTag (λ e. absurd cc) r.0 in
       (omega (arith, r.1), omega (arith, inside, r.1))
 
-  pub tops_within : (tops : List Top) (from to : ℕ) → from ≤ length ts → ReadsTops ts tops from to → to ≤ length ts
-  tops_within [] from to le r = omega (arith, le, r)
-  tops_within (top ∷ tops) from to le r = tops_within tops r.0 to (top_after top from r.0 r.1).1 r.2
-
   pub top_within : (top : Top) (from to : ℕ) → ReadsTop ts top from to → from < length ts
   top_within top from to r =
       let place = top_after top from to r in

@@ -1,4 +1,5 @@
 pub mod Calls
+pub mod ExistenceLemmas
 pub mod ExportLemmas
 pub mod FaultLemmas
 pub mod FeedLemmas

@@ -7,6 +7,7 @@ mod reading;
 mod rows;
 mod slow;
 mod tokens;
+mod trees;
 
 use play::difference;
 use reading::{FOLDERS, Kind};

@@ -7,8 +7,8 @@ use stan_lexer::{code_tokens, comments, integer_value, lex, text_value};
 use stan_model_grammar::token::{Token, TokenKind};
 use std::alloc::Global;
 
-/// The tokens of a source, or none where it is too large to be read.
-pub fn tokens_of(alloc: Global, source: &str) -> Result<Vec<Token>, OutOfMemory> {
+// The tokens of a source, or none where it is too large to be read.
+fn tokens_of(alloc: Global, source: &str) -> Result<Vec<Token>, OutOfMemory> {
     if source.len() > 1048576 {
         return Ok(Vec::new(alloc));
     }
@@ -47,10 +47,15 @@ pub fn tokens(alloc: Global, text: &str) -> Result<String, OutOfMemory> {
     shown(alloc, &source, &tokens)
 }
 
+/// The tokens of a source without comments and attributes.
+pub fn code_of(alloc: Global, source: &str) -> Result<Vec<Token>, OutOfMemory> {
+    let tokens = tokens_of(alloc, source)?;
+    code_tokens(alloc, &tokens)
+}
+
 pub fn tokens_of_code(alloc: Global, text: &str) -> Result<String, OutOfMemory> {
     let source = plain(alloc, text)?;
-    let tokens = tokens_of(alloc, &source)?;
-    let code = code_tokens(alloc, &tokens)?;
+    let code = code_of(alloc, &source)?;
     shown(alloc, &source, &code)
 }
 
