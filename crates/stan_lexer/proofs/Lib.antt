@@ -14,3 +14,4 @@ pub mod EndLemmas
 pub mod TextEndLemmas
 pub mod LexemeEndLemmas
 pub mod ExistLemmas
+pub mod SpellingLemmas

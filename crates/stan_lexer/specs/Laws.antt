@@ -5,7 +5,9 @@ use Rattle.stan_model_grammar.specs.declared.token.Token.{Token}
 use Rattle.stan_model_grammar.specs.declared.token.TokenKind.{TokenKind}
 use Rattle.stan_model_grammar.specs.Runs.{run_end, IsRun}
 use Rattle.stan_model_grammar.specs.Marks.{marks, mark}
+use Rattle.stan_model_grammar.specs.Numbers.{number}
 use Rattle.stan_model_grammar.specs.Tokens.{AreTokens}
+use Rattle.stan_lexer.specs.Spellings.{IsNumber}
 
 -- Every source has tokens, whatever its bytes.
 abbrev pub EverySourceHasTokens : Type 0
@@ -22,6 +24,10 @@ TokensStandInOrder = (source : List ℕ) (ts : List Token) → AreTokens source 
 -- No mark of the table that stands at a place is longer than the one that is read there.
 abbrev pub LongestMarkIsRead : Type 0
 LongestMarkIsRead = (source : List ℕ) (at : ℕ) (row : List ℕ × TokenKind) → Contains marks row → IsTrue (starts_with nat_eq (drop at source) row.0) → at + length row.0 ≤ (mark source at).1
+
+-- No number that is spelled at a place is longer than the one that is read there.
+abbrev pub NoLongerNumberIsSpelled : Type 0
+NoLongerNumberIsSpelled = (source : List ℕ) (at to : ℕ) → IsNumber source at to → to ≤ (number source at).1
 
 -- A run goes on while its places pass, and ends at the first one that fails, or at the end of the source.
 abbrev pub RunsEndWhereTheTestFails : Type 0

@@ -3,4 +3,5 @@ pub mod Joined
 pub mod Laws
 pub mod Quotes
 pub mod Runs
+pub mod Spellings
 pub mod Tables

@@ -1,6 +1,6 @@
 //! Laws of the definitions: each is the contract of a function that does nothing.
 
-ghost use Rattle.stan_lexer.specs.Laws.{EverySourceHasTokens, OneTokenList, TokensStandInOrder, LongestMarkIsRead, RunsEndWhereTheTestFails};
+ghost use Rattle.stan_lexer.specs.Laws.{EverySourceHasTokens, OneTokenList, TokensStandInOrder, LongestMarkIsRead, NoLongerNumberIsSpelled, RunsEndWhereTheTestFails};
 
 /// Every source has tokens, whatever its bytes.
 pub fn every_source_has_tokens()
@@ -20,6 +20,11 @@ pub fn tokens_stand_in_order()
 /// No mark of the table that stands at a place is longer than the one that is read there.
 pub fn longest_mark_is_read()
     ensures { LongestMarkIsRead }
+{}
+
+/// No number that is spelled at a place is longer than the one that is read there.
+pub fn no_longer_number_is_spelled()
+    ensures { NoLongerNumberIsSpelled }
 {}
 
 /// A run goes on while its places pass, and ends at the first one that fails, or at the end of the source.
