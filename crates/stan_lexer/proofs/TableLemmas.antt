@@ -28,12 +28,6 @@ module _ (rows : List (Bor (List ℕ) × TokenKind)) (word : List ℕ) (i : ℕ)
   pub kind_among-passed : (fold_case word ≡ fold_case (get_or rows i d).0.now → ⊥) → kind_among (map row_of (drop (i + 1) rows)) word ≡ kind_among (map row_of (drop i rows)) word
   kind_among-passed n = rw (kind_among-drop, not_true _ (λ e. n ((bytes_decides (fold_case word) (fold_case (get_or rows i d).0.now)).0 e))) refl
 
-module _ (rows : List (Bor (List ℕ) × TokenKind)) (source : List ℕ) (at i : ℕ) (d : Bor (List ℕ) × TokenKind) (lt : i < length rows) where
-  -- the row at the place is the first of those that are left
-  mark_among_drop : mark_among (map row_of (drop i rows)) source at
-      ≡ cond (starts_with nat_eq (drop at source) (get_or rows i d).0.now) ((get_or rows i d).1, at + length (get_or rows i d).0.now) (mark_among (map row_of (drop (i + 1) rows)) source at)
-  mark_among_drop = rw (drop-cons rows i d, add-one i) refl
-
 -- Bytes don't begin with a mark whose first byte is another.
 pub starts_with_apart : (rest mark : List ℕ) → 0 < length mark → (slice_index rest 0 ≡ slice_index mark 0 → ⊥) → starts_with nat_eq rest mark ≡ false
 starts_with_apart rest [] some apart = absurd (omega arith)
