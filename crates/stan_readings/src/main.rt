@@ -2,6 +2,8 @@
 //! row, or `WRONG` and what was read. The last line counts both. The status is 0 where no row is wrong, else 1.
 #![tactic(auto)]
 
+mod names;
+mod outside;
 mod play;
 mod reading;
 mod rows;

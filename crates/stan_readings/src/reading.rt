@@ -1,11 +1,11 @@
 //! What is read of a row's text.
 
-use crate::{tokens, trees};
+use crate::{names, outside, tokens, trees};
 use stan_base::OutOfMemory;
 use std::alloc::Global;
 
 /// The folders of rows, each with what is read of their texts.
-pub const FOLDERS: [(&str, Kind); 10] = [
+pub const FOLDERS: [(&str, Kind); 18] = [
     ("tokens", Kind::Tokens),
     ("code_tokens", Kind::CodeTokens),
     ("comments", Kind::Comments),
@@ -16,6 +16,14 @@ pub const FOLDERS: [(&str, Kind); 10] = [
     ("depths", Kind::Depths),
     ("nested", Kind::Nested),
     ("exits", Kind::Exits),
+    ("lines", Kind::Lines),
+    ("folds", Kind::Folds),
+    ("resolved", Kind::Resolved),
+    ("asks", Kind::Asks),
+    ("index", Kind::Index),
+    ("paths", Kind::Paths),
+    ("sinks", Kind::Sinks),
+    ("folders", Kind::Folders),
 ];
 
 #[derive(Clone, Copy)]
@@ -40,6 +48,22 @@ pub enum Kind {
     Nested,
     /// Whether an `exit` ends the program.
     Exits,
+    /// The line of a place.
+    Lines,
+    /// Whether two names are the same.
+    Folds,
+    /// The full name that a written one means.
+    Resolved,
+    /// What is asked for by a name.
+    Asks,
+    /// What an index of declarations answers.
+    Index,
+    /// Whether paths are proper.
+    Paths,
+    /// What a sink takes.
+    Sinks,
+    /// What a folder gives.
+    Folders,
 }
 
 pub fn reading(alloc: Global, kind: Kind, text: &str) -> Result<String, OutOfMemory> {
@@ -54,5 +78,13 @@ pub fn reading(alloc: Global, kind: Kind, text: &str) -> Result<String, OutOfMem
         Kind::Depths => trees::depth(alloc, text),
         Kind::Nested => trees::nested(alloc, text),
         Kind::Exits => trees::exit(alloc, text),
+        Kind::Lines => names::line(alloc, text),
+        Kind::Folds => names::folds(alloc, text),
+        Kind::Resolved => names::resolved_name(alloc, text),
+        Kind::Asks => names::ask(alloc, text),
+        Kind::Index => names::answer(alloc, text),
+        Kind::Paths => outside::paths(alloc, text),
+        Kind::Sinks => outside::writes(alloc, text),
+        Kind::Folders => outside::reads(alloc, text),
     }
 }

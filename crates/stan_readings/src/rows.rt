@@ -68,3 +68,16 @@ pub fn words(alloc: Global, text: &str) -> Result<Vec<String>, OutOfMemory> {
     }
     Ok(words)
 }
+
+/// The number that a text spells, or 0.
+pub fn number(text: &str) -> u32 {
+    text.parse::<u32>().unwrap_or(0)
+}
+
+/// The text of bytes.
+pub fn text_of(alloc: Global, bytes: &[u8]) -> Result<String, OutOfMemory> {
+    match str::from_utf8(bytes) {
+        Ok(text) => Ok(String::from_str(alloc, text)?),
+        Err(_) => Ok(String::from_str(alloc, "no text")?),
+    }
+}

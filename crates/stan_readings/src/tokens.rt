@@ -1,6 +1,6 @@
 //! Tokens, and what they mean, as text.
 
-use crate::rows::{parts, plain, words};
+use crate::rows::{parts, plain, text_of, words};
 use crate::slow::compared;
 use stan_base::OutOfMemory;
 use stan_lexer::{code_tokens, comments, integer_value, lex, text_value};
@@ -93,10 +93,7 @@ pub fn value_of_text(alloc: Global, text: &str) -> Result<String, OutOfMemory> {
     let (kind, bytes) = text.split_once(' ').unwrap_or((text, ""));
     let bytes = plain(alloc, bytes)?;
     let value = text_value(alloc, text_kind(kind), bytes.as_bytes())?;
-    match str::from_utf8(&value) {
-        Ok(value) => Ok(String::from_str(alloc, value)?),
-        Err(_) => Ok(String::from_str(alloc, "no text")?),
-    }
+    text_of(alloc, &value)
 }
 
 pub fn value_of_integer(alloc: Global, text: &str) -> Result<String, OutOfMemory> {

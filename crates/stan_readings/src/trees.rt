@@ -3,7 +3,7 @@
 mod marks;
 mod shown;
 
-use crate::rows::plain;
+use crate::rows::{number, plain};
 use crate::tokens::code_of;
 use shown::Printer;
 use stan_base::OutOfMemory;
@@ -33,7 +33,7 @@ fn parsed(
     }
 }
 
-fn text_of(alloc: Global, source: &str, tokens: &[Token], e: &Expr) -> Result<String, OutOfMemory> {
+fn tree_text(alloc: Global, source: &str, tokens: &[Token], e: &Expr) -> Result<String, OutOfMemory> {
     let mut printer = Printer {
         source,
         tokens,
@@ -55,7 +55,7 @@ pub fn tree(alloc: Global, text: &str) -> Result<String, OutOfMemory> {
         None => Ok(String::from_str(alloc, "none")?),
         Some((e, to)) => {
             if to as usize == tokens.len() {
-                text_of(alloc, &source, &tokens, &e)
+                tree_text(alloc, &source, &tokens, &e)
             } else {
                 Ok(String::from_str(alloc, "a part")?)
             }
@@ -94,10 +94,6 @@ fn push_nested(out: &mut String, text: &str, count: u32) -> Result<(), OutOfMemo
     push_times(out, front, count)?;
     out.push_str(middle)?;
     push_times(out, back, count)
-}
-
-fn number(text: &str) -> u32 {
-    text.parse::<u32>().unwrap_or(0)
 }
 
 /// The depth of a text in which a front and a back stand many times, where some levels are open: both numbers stand before it.
