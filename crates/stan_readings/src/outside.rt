@@ -124,11 +124,7 @@ fn entries(alloc: Global, text: &str) -> Result<Vec<Entry>, OutOfMemory> {
     Ok(entries)
 }
 
-fn push_two_reads(
-    out: &mut String,
-    tree: &mut MemoryTree,
-    asks: &str,
-) -> Result<(), OutOfMemory> {
+fn push_two_reads(out: &mut String, tree: &mut MemoryTree, asks: &str) -> Result<(), OutOfMemory> {
     let alloc = *out.allocator();
     let Ok(paths) = tree.list(alloc) else {
         return push_outcome(out, "failed");

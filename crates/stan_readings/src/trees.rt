@@ -33,7 +33,12 @@ fn parsed(
     }
 }
 
-fn tree_text(alloc: Global, source: &str, tokens: &[Token], e: &Expr) -> Result<String, OutOfMemory> {
+fn tree_text(
+    alloc: Global,
+    source: &str,
+    tokens: &[Token],
+    e: &Expr,
+) -> Result<String, OutOfMemory> {
     let mut printer = Printer {
         source,
         tokens,

@@ -14,8 +14,8 @@ use super::marks::{
     array_mark, assignment_mark, binary_mark, leaf_mark, prefix_mark, visibility_mark,
 };
 use stan_base::line_at;
-use stan_model_grammar::token::Token;
 use stan_model_grammar::operators::BinaryOperator;
+use stan_model_grammar::token::Token;
 use stan_syntax::{
     Argument, Arguments, Arm, Body, ClassReference, Element, Expr, Form, MemberName, Operation,
     Parameter, Suffix, TextPart, TypeTree,
