@@ -22,6 +22,7 @@ use std::sync::Arc;
 pub struct PhpAnalyst {}
 
 impl PhpAnalyst {
+    /// An analyst, which holds nothing between two files.
     pub fn new() -> PhpAnalyst {
         PhpAnalyst {}
     }

@@ -21,6 +21,7 @@ pub enum Collected {
     TraitUsed { name: Name },
 }
 
+/// What the analysis of one file gives.
 #[derive(Drop)]
 pub struct Verdict {
     /// By line, rule and text, equal ones once.
@@ -30,6 +31,7 @@ pub struct Verdict {
     pub ignored: Vec<u32>,
 }
 
+/// The faults of the file at a path, and the lines whose faults are ignored.
 #[derive(Drop)]
 pub struct FileFaults {
     pub path: String,
@@ -38,6 +40,7 @@ pub struct FileFaults {
 }
 
 impl Fault {
+    /// An equal fault. Only memory can be wanting.
     pub fn copy(&self, alloc: Global) -> Result<Fault, OutOfMemory>
         ensures { IfOk result (λ fault. fault_of fault ≡ fault_of self.now) }
     {
@@ -51,6 +54,7 @@ impl Fault {
 }
 
 impl Collected {
+    /// An equal value. Only memory can be wanting.
     pub fn copy(&self, alloc: Global) -> Result<Collected, OutOfMemory>
         ensures { IfOk result (λ collected. collected_of collected ≡ collected_of self.now) }
     {
@@ -67,6 +71,7 @@ impl Collected {
 }
 
 impl Verdict {
+    /// An equal verdict. Only memory can be wanting.
     pub fn copy(&self, alloc: Global) -> Result<Verdict, OutOfMemory>
         ensures faults { IfOk result (λ verdict. map fault_of verdict.faults.items ≡ map fault_of self.now.faults.items) }
         ensures collected { IfOk result (λ verdict. map collected_of verdict.collected.items ≡ map collected_of self.now.collected.items) }

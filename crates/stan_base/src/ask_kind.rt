@@ -1,5 +1,6 @@
 //! What a look-up asks for.
 
+/// What a name is looked up as.
 #[derive(Clone, Copy, Debug, PartialEq, Eq)]
 pub enum AskKind {
     Class,

@@ -2,6 +2,7 @@
 
 use std::alloc::{AllocError, AllocFailed};
 
+/// Memory is wanting. It may be answered at any time, and stands for nothing else.
 #[derive(Clone, Copy, Debug, PartialEq, Eq)]
 pub struct OutOfMemory;
 

@@ -16,6 +16,7 @@ pub struct Name {
 }
 
 impl Name {
+    /// The name of these bytes, of any length. Only memory can be wanting.
     pub fn new(alloc: Global, bytes: &[u8]) -> Result<Name, OutOfMemory>
         ensures { IfOk result (λ name. name_bytes name ≡ bytes.now) }
     {
@@ -23,12 +24,14 @@ impl Name {
         Ok(Name { bytes })
     }
 
+    /// The bytes of the name, as they were given.
     pub fn bytes(&self) -> &[u8]
         ensures { result.now ≡ name_bytes self.now }
     {
         self.bytes.as_slice()
     }
 
+    /// A name of equal bytes. Only memory can be wanting.
     pub fn copy(&self, alloc: Global) -> Result<Name, OutOfMemory>
         ensures { IfOk result (λ name. name_bytes name ≡ name_bytes self.now) }
     {

@@ -1,5 +1,5 @@
 -- The stages of a run, joined.
-use Rattle.std.proofs.Common.{◌≡◌, ℕ, ◌≤◌, ◌<◌, List, length, take, Some, None, Result, Ok, Err, refl, sym, ap, subst, ◌∙◌, arith}
+use Rattle.std.proofs.Common.{◌≡◌, ℕ, ◌≤◌, List, length, take, Some, None, Result, Ok, Err, sym, ap, subst, ◌∙◌, arith}
 use Rattle.std.proofs.Common.{◌-◌, drop, map, length-drop}
 use Rattle.std.specs.List.{zip}
 use Rattle.std.proofs.lemmas.List.{length-map, take_all, drop-map}
@@ -14,10 +14,9 @@ use Rattle.stan_cli.specs.declared.run.Done.{Done}
 use Rattle.stan_cli.specs.declared.refusal.Refusal.{Refusal}
 use Rattle.stan_cli.specs.declared.refusal.Refusal.TheVariants.{BadWords, Limit, TreeFault, SinkFault, OutOfMemory}
 use Rattle.stan_cli.specs.declared.refusal.Which.TheVariants.{Files, Bytes}
-use Rattle.stan_cli.specs.Seen.{SeenTree, SeenSink, Seen}
-use Rattle.stan_cli.specs.Sources.{IsReadRefusal, IsListRefusal, ReadsWithin}
-use Rattle.stan_cli.specs.Words.{refused_part}
-use Rattle.stan_cli.specs.Run.{IsProjectRefusal, IsListed, IsUntouched, Reports, Comes, files_of, KeepsLimits}
+use Rattle.stan_cli.specs.Seen.{SeenTree, Seen}
+use Rattle.stan_cli.specs.Sources.{IsReadRefusal, ReadsWithin}
+use Rattle.stan_cli.specs.Run.{IsProjectRefusal, IsListed, IsUntouched, Comes, files_of, KeepsLimits}
 use Rattle.stan_cli.proofs.SourceLemmas.{Rose-later, RoseBy-none, all_read}
 
 -- a refusal to read, after the listing

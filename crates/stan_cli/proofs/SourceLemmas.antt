@@ -3,11 +3,10 @@ use Rattle.std.proofs.Common.{◌≡◌, ℕ, ◌+◌, ◌≤◌, ◌<◌, List,
 use Rattle.std.proofs.Common.{suc, drop-cons}
 use Rattle.std.proofs.lemmas.List.{append-nil, append_assoc, map-append, take-append-drop}
 use Rattle.std.proofs.lemmas.Bool.{lt-ltb, le-ltb, cases_lt}
-use Rattle.stan_outside.specs.Contents.{Contents}
 use Rattle.stan_cli.specs.Project.{most_bytes, excess_from, reads_until}
 use Rattle.stan_outside.specs.Outside.{Rose, RoseBy}
 use Rattle.stan_cli.specs.Seen.{SeenTree}
-use Rattle.stan_cli.specs.Sources.{KeepsTree, ReadsWithin, IsTreeRefusal, IsReadRefusal}
+use Rattle.stan_cli.specs.Sources.{ReadsWithin, IsTreeRefusal, IsReadRefusal}
 use Rattle.stan_cli.specs.declared.refusal.Refusal.{Refusal}
 use Rattle.stan_cli.specs.declared.refusal.Refusal.TheVariants.{BadWords, Limit, TreeFault, SinkFault, OutOfMemory}
 use Rattle.stan_cli.specs.declared.refusal.Which.TheVariants.{Files, Bytes}

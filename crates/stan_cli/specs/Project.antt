@@ -1,8 +1,6 @@
 -- The files of a folder that given paths choose, and the limits on them.
-use Rattle.std.specs.Prelude.{ℕ, ◌+◌, ◌==◌, ◌&&◌, ◌||◌, nat_lt, not, if◌then◌else◌, Bool, List, [], ◌∷◌, Option, Some, None, map, filter, length, codes, take, slice_index, nat_eq}
-use Rattle.std.specs.List.{starts_with, ends_with, list_any, slice_split, join_with_byte}
-use Rattle.std.specs.Ordering.{nat_cmp}
-use Rattle.std.specs.Cmp.Lexicographic.{slice_cmp}
+use Rattle.std.specs.Prelude.{ℕ, ◌+◌, ◌==◌, ◌&&◌, ◌||◌, nat_lt, if◌then◌else◌, Bool, List, [], ◌∷◌, Option, Some, None, map, filter, length, codes, take, slice_index, nat_eq}
+use Rattle.std.specs.List.{starts_with, ends_with, list_any, join_with_byte}
 use Rattle.std.specs.FinMap as finite
 use Rattle.std.specs.Str.{bytes_eq}
 use Rattle.stan_model_grammar.specs.Reading.{largest_source}

@@ -1,5 +1,5 @@
 -- What the outside shows before a call and after it.
-use Rattle.std.specs.Prelude.{◌≡◌, ℕ, List}
+use Rattle.std.specs.Prelude.{ℕ, List}
 use Rattle.stan_outside.specs.Contents.{Contents}
 
 -- A folder: whether it tells what it holds and what that is, whether none of its calls fails, how often it failed, how often it was listed,

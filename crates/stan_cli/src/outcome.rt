@@ -14,6 +14,7 @@ pub struct Tally {
     pub analysed: u32,
 }
 
+/// What a run comes to.
 #[derive(Clone, Copy, Debug, PartialEq, Eq)]
 pub struct Outcome {
     /// 2 with a refusal, 1 where the report has a fault, else 0.

@@ -17,6 +17,7 @@ pub enum Which {
     Bytes,
 }
 
+/// Why a run gave no report, one variant a cause.
 #[derive(Clone, Copy, Debug, PartialEq, Eq)]
 pub enum Refusal {
     BadWords { part: WordsPart },

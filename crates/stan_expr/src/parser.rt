@@ -15,6 +15,7 @@ use std::alloc::Global;
 /// How deep a tree may be.
 pub const MAX_DEPTH: u32 = 200;
 
+/// What a parser answers.
 #[derive(Drop)]
 pub enum Parsed<T> {
     /// What was read, and the place behind it.

@@ -12,7 +12,7 @@ use Rattle.stan_model_grammar.specs.Trees.{TypeTree, Tree, Form, Single, Bracket
 use Rattle.stan_model_grammar.specs.Expressions.{captured, part, further, has_items, Is, Stands, May, MayCapture, MayReturn, Lists, ItemReads, Repeats, Bodies}
 use Rattle.stan_expr_rules.proofs.InsideLemmas.{step_inside}
 use Rattle.stan_expr_rules.specs.Parse as parse
-use Rattle.stan_expr_rules.specs.Parse.{◌>>=◌, choose, enclosed, fenced, fenced_some, some_items, argument_at, element_at, positional, captured_at, arm_at, may_capture, parameters, may_be_called, called, class_reference, new, brackets, short_array, long_array, is_set, empty, exit, match_form, closure, text, parts, leaf, static_word, form_by, may_return, body}
+use Rattle.stan_expr_rules.specs.Parse.{enclosed, fenced, fenced_some, element_at, positional, captured_at, arm_at, may_capture, parameters, may_be_called, class_reference, new, brackets, short_array, long_array, is_set, empty, exit, match_form, closure, text, parts, leaf, static_word, form_by}
 use Rattle.stan_expr_rules.proofs.Greedy.{J, Near}
 use Rattle.stan_expr_greedy.proofs.Reading.{after_at, after_not, after_to, nothing_is}
 use Rattle.stan_expr_greedy.proofs.Computes.{after_other, may_reads}

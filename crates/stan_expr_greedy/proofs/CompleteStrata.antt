@@ -15,7 +15,7 @@ use Rattle.stan_model_grammar.specs.Trees.{Tree, node, Form, Single, Post, Prefi
 use Rattle.stan_model_grammar.specs.Expressions.{suffix, operation, IsSomeStep, is_assignable, Is, Stands, Operates, Assigns}
 use Rattle.stan_expr_rules.specs.Places.{same_kind, joins_at}
 use Rattle.stan_expr_rules.specs.Parse as parse
-use Rattle.stan_expr_rules.specs.Parse.{◌>>=◌, first_of, stands_conditional, is_conditional, is_arrow, suffixed, with_suffixes, with_operations, form_by, atom_with, post_with, new, new_with, post, assigned, target, target_by, prefixed, operand_by, operand, chain, binary, conditional, by_fixity, operated_by, operated, stratum, strata, suffixes}
+use Rattle.stan_expr_rules.specs.Parse.{first_of, stands_conditional, is_conditional, is_arrow, suffixed, with_suffixes, with_operations, form_by, atom_with, post_with, new, new_with, post, assigned, target, prefixed, operand, chain, binary, conditional, by_fixity, operated, stratum, strata}
 use Rattle.stan_expr_rules.proofs.Greedy.{J, Near, Greedy, leaf_is_none, plain, plain_of}
 use Rattle.stan_expr_rules.proofs.InsideLemmas.{stands_kind}
 use Rattle.stan_expr_greedy.proofs.Reading.{after_at, not_true, same_at, same_not}

@@ -15,6 +15,7 @@ use stan_places::strata::LOOSEST;
 use stan_syntax::Expr;
 use std::alloc::Global;
 
+/// The tokens that are read, how many levels are left below, and the function that reads what stands a level deeper.
 #[derive(Drop)]
 pub struct Grammar<'t, F> {
     pub alloc: Global,

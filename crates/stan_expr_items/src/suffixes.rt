@@ -237,6 +237,7 @@ impl<'t, F: Fn(Global, &[Token], u32, bool, u8, usize) -> Result<(Expr, usize), 
         }
     }
 
+    /// All that is appended from a place on, as many parts as there are, and the place behind them.
     #[tactic(auto, using(stan_syntax::proofs::Layers::layers), unfolding(stan_expr_rules::specs::Parse::suffixes, stan_expr_rules::specs::Parse::all))]
     pub fn suffixes(&self, from: usize) -> Result<(Items<Suffix>, usize), Stop>
         requires { Nests self.now.depth (F.pre self.now.read) (F.post self.now.read) }
@@ -256,6 +257,7 @@ impl<'t, F: Fn(Global, &[Token], u32, bool, u8, usize) -> Result<(Expr, usize), 
         Err(Stop::Absent)
     }
 
+    /// All that is appended to the variable that holds the class of a `new`, and the place behind it.
     #[tactic(auto, using(stan_syntax::proofs::Layers::layers), unfolding(stan_expr_rules::specs::Parse::class_suffixes, stan_expr_rules::specs::Parse::all))]
     pub fn class_suffixes(&self, from: usize) -> Result<(Items<Suffix>, usize), Stop>
         requires { Nests self.now.depth (F.pre self.now.read) (F.post self.now.read) }

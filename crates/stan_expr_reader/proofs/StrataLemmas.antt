@@ -1,6 +1,5 @@
 -- The strata one after the other, and what stands past the last token.
-use Rattle.std.proofs.Common.{◌≡◌, ℕ, zero, suc, add-zero, ◌-◌, ◌+◌, ◌≤◌, ◌<◌, Bool, true, false, if◌then◌else◌, Option, slice_get, length, subst, List, [], ◌∷◌, ◌++◌, Some, None, refl, sym, ap, ◌∙◌, arith}
-use Rattle.std.proofs.lemmas.Bool.{ne_eqb}
+use Rattle.std.proofs.Common.{◌≡◌, ℕ, zero, suc, add-zero, ◌-◌, ◌+◌, ◌≤◌, ◌<◌, Bool, true, false, if◌then◌else◌, length, subst, List, Some, None, refl, sym, ap, ◌∙◌, arith}
 use Rattle.stan_places.specs.declared.stop.Stop.{Stop}
 use Rattle.stan_places.specs.declared.stop.Stop.TheVariants.{Memory, Absent}
 use Rattle.stan_places.specs.Gives.{Fails}
@@ -10,8 +9,7 @@ use Rattle.stan_model_grammar.specs.declared.token.TokenKind.TheVariants as kind
 use Rattle.stan_model_grammar.specs.Strata.{kind_at}
 use Rattle.stan_model_grammar.specs.Trees.{Tree, is_pattern}
 use Rattle.stan_expr_rules.specs.Places.{joins_at, operator_at}
-use Rattle.stan_model_grammar.specs.Expressions.{braces_behind, opens_brace, closes_brace}
-use Rattle.stan_expr_rules.specs.Parse.{Read, Turn, many, ◌>>=◌, operand, strata, stratum, operated, conditional, below, closing_within}
+use Rattle.stan_expr_rules.specs.Parse.{Read, operand, strata, stratum, operated, conditional, below}
 
 pub deeper : {X : Type 0} (f : ℕ → X) (n : ℕ) → 0 < n → f n ≡ f (suc (n - 1))
 deeper f n some = let e : n ≡ suc (n - 1) = omega arith in ap f e

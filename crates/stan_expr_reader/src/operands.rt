@@ -169,6 +169,7 @@ fn target<F: Fn(Global, &[Token], u32, bool, u8, usize) -> Result<(Expr, usize),
     target_by(grammar, pattern, assigning_at(grammar.tokens, to), e, to)
 }
 
+/// The operand at a place, with the assignment that it may begin, and the place behind it.
 #[tactic(auto, using(stan_syntax::proofs::Layers::layers), unfolding(stan_expr_rules::specs::Parse::operand, stan_expr_rules::specs::Parse::prefixed))]
 pub fn operand<F: Fn(Global, &[Token], u32, bool, u8, usize) -> Result<(Expr, usize), Stop>>(
     grammar: &Grammar<'_, F>,

@@ -16,6 +16,7 @@ pub struct Calls {
 }
 
 impl Calls {
+    /// Calls of which those with these numbers fail. None was made yet.
     pub fn new(failing: Vec<u64>) -> Calls
         ensures { AreNew failing.items result }
     {

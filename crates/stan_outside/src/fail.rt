@@ -21,6 +21,7 @@ impl Failed {
     }
 }
 
+/// Why a call on the outside did not do its work.
 #[derive(Clone, Copy, Debug, PartialEq, Eq)]
 pub enum Fail {
     /// The system failed. The count of faults rose in this call.

@@ -34,6 +34,7 @@ pub struct FolderTree<'a, R: Files + AllocGlobal + Clone + Drop> {
 }
 
 impl<'a, R: Files + AllocGlobal + Clone + Drop> FolderTree<'a, R> {
+    /// The current folder of the process.
     pub fn new(rt: &'a R) -> Self
         ensures faults { folder_faults result ≡ 0 }
         ensures listings { folder_listings result ≡ 0 }

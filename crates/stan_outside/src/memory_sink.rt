@@ -47,6 +47,7 @@ impl MemorySink {
         })
     }
 
+    /// The bytes written so far.
     pub fn bytes(&self) -> &[u8]
         ensures { result.now ≡ sink_bytes self.now }
     {

@@ -5,6 +5,7 @@ ghost use Rattle.stan_outside.specs.Outside.{Rose};
 
 use crate::Failed;
 
+/// Something that takes bytes, piece by piece, and may fail.
 pub trait Sink {
     /// Whether it tells what was written.
     ghost tells: { Self → Type 0 };

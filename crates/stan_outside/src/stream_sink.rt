@@ -16,6 +16,7 @@ pub struct StreamSink<W: Write> {
 }
 
 impl<W: Write> StreamSink<W> {
+    /// A sink over this writer, with no fault yet.
     pub fn new(writer: W) -> StreamSink<W>
         ensures writer { stream_writer result ≡ writer }
         ensures faults { stream_faults result ≡ 0 }

@@ -9,6 +9,7 @@ ghost use Rattle.stan_outside.specs.declared.fail.Fail.TheVariants as fails;
 use crate::Fail;
 use std::alloc::Global;
 
+/// A folder: files by their paths, which are listed and read, and may fail to be.
 pub trait Tree {
     /// Whether it tells what it holds.
     ghost tells: { Self → Type 0 };

@@ -5,9 +5,9 @@ use Rattle.stan_model_grammar.specs.declared.operators.AssignmentOperator.TheVar
 use Rattle.stan_model_grammar.specs.declared.operators.BinaryOperator.{BinaryOperator}
 use Rattle.stan_model_grammar.specs.declared.operators.BinaryOperator.TheVariants as binaries
 use Rattle.stan_model_grammar.specs.declared.token.Token.{Token}
-use Rattle.stan_model_grammar.specs.Strata.{kind_at, kind_of, binary_at, binary_size, assignment_at, assignment_size, joins}
+use Rattle.stan_model_grammar.specs.Strata.{kind_at, binary_size, assignment_at, assignment_size}
 use Rattle.stan_expr_rules.proofs.InsideLemmas.{kind_inside}
-use Rattle.stan_expr_rules.specs.Places.{after, after_of, same_kind, operator_at, assigning_at, joins_at}
+use Rattle.stan_expr_rules.specs.Places.{after, after_of, same_kind, assigning_at}
 use Rattle.std.proofs.lemmas.Option.{slice_get_within}
 use Rattle.stan_model_grammar.specs.declared.token.TokenKind.{TokenKind}
 use Rattle.stan_model_grammar.specs.declared.token.TokenKind.TheVariants as kinds

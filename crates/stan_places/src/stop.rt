@@ -5,6 +5,7 @@ ghost use Rattle.stan_places.specs.declared.stop.Stop.TheVariants.{Memory};
 
 use std::alloc::{AllocError, AllocFailed};
 
+/// Why nothing was read.
 #[derive(Debug, Drop)]
 pub enum Stop {
     Memory,

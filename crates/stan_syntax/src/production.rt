@@ -9,6 +9,7 @@ use crate::tree::{Expr, Form};
 use stan_model_grammar::operators::{Leaf, Production};
 
 impl Form {
+    /// Which production it is, whatever stands in it.
     pub fn production(&self) -> Production
         ensures { result ≡ model.form_production (form_of self.now) }
     {
@@ -35,6 +36,7 @@ impl Form {
 }
 
 impl Expr {
+    /// The production of its form.
     pub fn production(&self) -> Production
         ensures { result ≡ model.production (tree_of self.now) }
     {

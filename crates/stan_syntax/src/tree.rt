@@ -15,6 +15,7 @@ pub enum TypeTree {
     Union(Token, Items<Token>),
 }
 
+/// An expression.
 #[cycle(tree)]
 #[derive(Drop)]
 pub struct Expr {
@@ -23,6 +24,7 @@ pub struct Expr {
     pub form: Form,
 }
 
+/// What an expression is made of, one variant a production, with its parts in order.
 #[cycle(tree)]
 #[derive(Drop)]
 pub enum Form {
@@ -82,6 +84,7 @@ pub enum Form {
     Conditional(Boxed<Expr>, Boxed<Expr>, Boxed<Expr>),
 }
 
+/// What stands between the brackets of a call.
 #[cycle(tree)]
 #[derive(Drop)]
 pub struct Arguments {
@@ -90,6 +93,7 @@ pub struct Arguments {
     pub comma: bool,
 }
 
+/// An argument of a call.
 #[cycle(tree)]
 #[derive(Drop)]
 pub enum Argument {
@@ -100,6 +104,7 @@ pub enum Argument {
     Named(Token, Expr),
 }
 
+/// An element of an array.
 #[cycle(tree)]
 #[derive(Drop)]
 pub enum Element {
@@ -116,6 +121,7 @@ pub enum Element {
     },
 }
 
+/// A parameter of a closure or an arrow function.
 #[cycle(tree)]
 #[derive(Drop)]
 pub struct Parameter {
@@ -128,6 +134,7 @@ pub struct Parameter {
     pub default: Option<Boxed<Expr>>,
 }
 
+/// An arm of `match`.
 #[cycle(tree)]
 #[derive(Drop)]
 pub enum Arm {
@@ -176,6 +183,7 @@ pub enum Suffix {
     Decrement,
 }
 
+/// What stands behind `->` or `?->`.
 #[cycle(tree)]
 #[derive(Drop)]
 pub enum MemberName {
@@ -185,6 +193,7 @@ pub enum MemberName {
     Computed(Boxed<Expr>),
 }
 
+/// An operator with the operand behind it.
 #[cycle(tree)]
 #[derive(Drop)]
 pub struct Operation {
@@ -213,6 +222,7 @@ pub enum Body {
     Read(Items<Stmt>),
 }
 
+/// A statement in the body of a closure.
 #[cycle(tree)]
 #[derive(Drop)]
 pub enum Stmt {

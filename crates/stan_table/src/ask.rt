@@ -27,6 +27,7 @@ impl Ask {
         Ok(Ask { kind, name })
     }
 
+    /// An equal question. Only memory can be wanting.
     pub fn copy(&self, alloc: Global) -> Result<Ask, OutOfMemory>
         ensures kind { IfOk result (λ ask. ask.kind ≡ self.now.kind) }
         ensures name { IfOk result (λ ask. name_bytes ask.name ≡ name_bytes self.now.name) }

@@ -13,6 +13,7 @@ pub struct FunctionNode {
     pub name: Name,
 }
 
+/// What other files see of a declaration, one variant a kind.
 #[derive(Drop)]
 pub enum Exported {
     Function(FunctionNode),
@@ -28,6 +29,7 @@ impl Exported {
         }
     }
 
+    /// An equal node. Only memory can be wanting.
     pub fn copy(&self, alloc: Global) -> Result<Exported, OutOfMemory>
         ensures { IfOk result (λ node. node_of node ≡ node_of self.now) }
     {

@@ -24,6 +24,7 @@ pub struct Index {
 impl Index {
     ghost use Rattle.stan_table.specs.Index.{index_table};
 
+    /// The index of these nodes, in this order. Only memory can be wanting.
     pub fn build(alloc: Global, nodes: Vec<Exported>) -> Result<Index, OutOfMemory>
         requires { vec_len nodes < 2 ^ 32 }
         ensures { IfOk result (λ index. index_table index ≡ map node_of nodes.items) }
@@ -49,6 +50,7 @@ impl Index {
         self.nodes.len() as u32
     }
 
+    /// The node at a place below the number of nodes.
     pub fn node(&self, place: u32) -> &Exported
         requires { place < length (index_table self.now) }
         ensures { slice_get (index_table self.now) place ≡ Some (node_of result.now) }

@@ -12,8 +12,10 @@ use stan_base::{AskKind, Name, OutOfMemory};
 use stan_table::{Ask, Index};
 use std::alloc::Global;
 
+/// The number of the rule.
 pub const NUMBER: u16 = 1;
 
+/// The level from which on it comes, 0 to 9.
 pub const LEVEL: u8 = 0;
 
 /// The fault of a call by this full name on this line, if the table lacks the function.
