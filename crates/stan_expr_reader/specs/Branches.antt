@@ -4,7 +4,7 @@ use Rattle.stan_model_grammar.specs.declared.token.Token.{Token}
 use Rattle.stan_model_grammar.specs.declared.token.TokenKind.TheVariants as kinds
 use Rattle.stan_model_grammar.specs.Strata.{loosest}
 use Rattle.stan_model_grammar.specs.Trees.{Tree}
-use Rattle.stan_expr_rules.specs.Parse.{Read}
+use Rattle.stan_expr_rules.specs.Parse.{Read, ◌>>=◌}
 use Rattle.stan_expr_rules.specs.Places.{after}
 
 unfoldable pub branches : List Token → (Bool → ℕ → ℕ → Read Tree) → ℕ → Read (Tree × Tree)
