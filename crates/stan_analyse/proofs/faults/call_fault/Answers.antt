@@ -12,6 +12,6 @@ line_at-requires c = record { few = omega (arith, c.requires.small, few_feeds c.
 
 pub returns : goal.returns
 returns c =
-    IfOk-weaker c.name_fault.result _ _
+    IfOk-weaker c.judge.result _ _
     (λ fault is. is ∙ ap₂ (λ (line : ℕ) (name : List ℕ). let fact : CallFact = record { line = line; name = name } in fact_fault (index_table c.args.index.now) fact) (c.line_at.ensures c.args.source.now c.requires.feeds) (c.resolved-name.ensures ∙ ap resolved c.spelling_of.ensures))
-    c.name_fault.ensures
+    c.judge.ensures
