@@ -1,8 +1,11 @@
 pub mod Checks
 pub mod Decided
+pub mod DepthLemmas
 pub mod Exceeds
+pub mod Expressions
 pub mod Law
 pub mod Places
 pub mod Runs
+pub mod Starts
 pub mod Tables
 pub mod Words
