@@ -3,8 +3,11 @@ pub mod Decided
 pub mod DepthLemmas
 pub mod Exceeds
 pub mod Expressions
+pub mod Heights
+pub mod Inside
 pub mod Law
 pub mod Places
+pub mod Reading
 pub mod Runs
 pub mod Starts
 pub mod Tables
