@@ -1,5 +1,5 @@
 -- What a production of the grammar of files is made of.
-use Rattle.std.specs.Prelude.{Bool, true, false, List, [], ◌∷◌}
+use Rattle.std.specs.Prelude.{Bool, true, false, List, ◌∷◌}
 use Rattle.stan_model_grammar.specs.declared.token.TokenKind.{TokenKind}
 
 -- what can stand as a part of a production

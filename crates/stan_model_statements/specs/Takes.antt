@@ -4,7 +4,7 @@ use Rattle.stan_model_grammar.specs.declared.token.Token.{Token}
 use Rattle.stan_model_grammar.specs.Depth.{depth as tree_depth}
 use Rattle.stan_model_grammar.specs.Strata.{loosest}
 use Rattle.stan_model_grammar.specs.Takes.{size as tree_size, takes as tree_takes, More}
-use Rattle.stan_model_statements.specs.Symbols.{Need, One, May, Many, Again, Symbol, Mark, Word, Checked, Expression, Part, rest}
+use Rattle.stan_model_statements.specs.Symbols.{Need, May, Many, Again, Symbol, Mark, Word, Checked, Expression, Part, rest}
 use Rattle.stan_model_statements.specs.Rules.{symbols, weight}
 use Rattle.stan_model_statements.specs.Forests.{Forest, nil, mark, word, expr, none, some}
 use Rattle.stan_model_statements.specs.Grammar.{Spells}

@@ -1,5 +1,5 @@
 -- Declarations and statements in a row, and the longest front of the tokens that they spell. The bodies of closures are held.
-use Rattle.std.specs.Prelude.{◌≡◌, ◌⊎◌, ℕ, ◌+◌, ◌≤◌, Bool, true, false, IsFalse, List, [], ◌∷◌, length}
+use Rattle.std.specs.Prelude.{◌≡◌, ◌⊎◌, ℕ, ◌≤◌, Bool, IsFalse, List, [], ◌∷◌, length}
 use Rattle.stan_model_grammar.specs.declared.token.Token.{Token}
 use Rattle.stan_model_grammar.specs.Files.{goes_on}
 use Rattle.stan_model_grammar.specs.Strata.{kind_at}

@@ -1,5 +1,5 @@
 -- What is asked of the productions, and computed: no lemma about one production stands here.
-use Rattle.std.proofs.Common.{◌≡◌, ℕ, ◌+◌, Bool, true, false, List, [], ◌∷◌, ◌++◌, refl, sym, ap, subst, ◌∙◌, ◌&&◌, ◌⊎◌, inl, inr}
+use Rattle.std.proofs.Common.{◌≡◌, Bool, true, false, List, [], ◌∷◌, ◌++◌, refl, subst, ◌&&◌, inl, inr}
 use Rattle.std.specs.Prelude.{not, ◌||◌, Option, Some, None}
 use Rattle.stan_model_grammar.specs.declared.token.TokenKind.{TokenKind}
 use Rattle.stan_model_grammar.specs.declared.token.TokenKind.TheVariants as k
@@ -8,7 +8,7 @@ use Rattle.stan_model_statements.specs.Kinds.{same_kind, has}
 use Rattle.stan_model_statements.specs.Symbols.{Sort, Top, UseItem, FurtherUseItem, GroupItem, FurtherGroupItem, GroupEnd, Statement, Expressions, ElseIfPart, ElsePart, Case, Handlers, FurtherArgument, Closing, Declared, FurtherDeclared, Parameter, FurtherParameter, ReturnType, WrittenType, InterfaceExtends, Implements, Names, Modifier, Modified, PropertyType, AdaptedTrait, AdaptationRest, Need, One, May, Many, Again, Symbol, Mark, Word, Checked, Expression, Part, lacks, rest}
 use Rattle.stan_model_statements.specs.Rules.{Rule, namespace_statement, symbols, sort_of}
 use Rattle.stan_stmt_rules.specs.Ahead.{expression_kinds, statement_kinds, begins, owner, dangles, leads_on}
-use Rattle.stan_stmt_law.proofs.Words.{implies, and_split, and_both, or_split, or_none, implied, implying, truth, not_false, subset, apart, subset_has, apart_has, clash, same_is}
+use Rattle.stan_stmt_law.proofs.Words.{implies, and_split, and_both, implied, implying, truth, not_false, subset, apart, subset_has, clash}
 
 -- ---- the tables
 

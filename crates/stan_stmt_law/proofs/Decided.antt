@@ -1,20 +1,19 @@
 -- Each production is the one that its first tokens ask for.
-use Rattle.std.proofs.Common.{◌≡◌, ℕ, ◌+◌, ◌<◌, Bool, true, false, List, [], ◌∷◌, Option, Some, None, refl, sym, ap, subst, ◌∙◌, ◌⊎◌, inl, inr, arith, ◌&&◌, true≢false}
-use Rattle.std.specs.Prelude.{not, ◌||◌, if◌then◌else◌}
+use Rattle.std.proofs.Common.{◌≡◌, ℕ, ◌+◌, ◌<◌, Bool, true, false, List, [], ◌∷◌, Some, None, refl, sym, ap, subst, ◌∙◌, inl, inr, arith, ◌&&◌, true≢false}
+use Rattle.std.specs.Prelude.{◌||◌, if◌then◌else◌}
 use Rattle.stan_model_grammar.specs.declared.token.Token.{Token}
 use Rattle.stan_model_grammar.specs.declared.token.TokenKind.{TokenKind}
 use Rattle.stan_model_grammar.specs.declared.token.TokenKind.TheVariants as k
-use Rattle.stan_model_grammar.specs.Expressions.{Is, Stands}
 use Rattle.stan_model_grammar.specs.Strata.{kind_at}
 use Rattle.stan_model_grammar.specs.Takes.{size as tree_size}
 use Rattle.stan_model_grammar.specs.Trees.{Tree}
 use Rattle.stan_model_statements.specs.Kinds.{same_kind, has, names, statics, ends, visibilities, class_modifiers, modifiers, property_type_names, type_names, member_names, alias_names}
-use Rattle.stan_model_statements.specs.Symbols.{Sort, NamespaceName, Tops, UseKind, UseItem, FurtherUseItem, UseAlias, GroupItems, GroupItem, FurtherGroupItem, Block, Condition, Expressions, FurtherExpression, Value, ElseIfPart, ElsePart, ForHead, ForEachHead, Cases, Levels, CatchPart, CatchHead, FurtherClass, CatchVariable, FinallyPart, UnsetList, FurtherArgument, FurtherGlobal, Declared, FurtherDeclared, Constant, FurtherConstant, Directive, Default, ByReference, Parameter, FurtherParameter, Visibility, Variadic, ReturnType, FurtherType, ClassModifier, Extends, InterfaceExtends, Implements, Names, FurtherName, ClassBody, Modifier, ClassConstants, ClassConstant, FurtherClassConstant, Method, Properties, PropertyType, Adaptations, Adaptation, AdaptedTrait, Need, One, May, Many, Again, modifier, Symbol, Mark, Word, Checked, Expression, Part, lacks}
+use Rattle.stan_model_statements.specs.Symbols.{Sort, NamespaceName, Tops, UseKind, UseItem, FurtherUseItem, UseAlias, GroupItems, GroupItem, FurtherGroupItem, Block, Condition, Expressions, FurtherExpression, Value, ElseIfPart, ElsePart, ForHead, ForEachHead, Cases, Levels, CatchPart, CatchHead, FurtherClass, CatchVariable, FinallyPart, UnsetList, FurtherArgument, FurtherGlobal, Declared, FurtherDeclared, Constant, FurtherConstant, Directive, Default, ByReference, Parameter, FurtherParameter, Visibility, Variadic, ReturnType, FurtherType, ClassModifier, Extends, InterfaceExtends, Implements, Names, FurtherName, ClassBody, Modifier, ClassConstants, ClassConstant, FurtherClassConstant, Method, Properties, PropertyType, Adaptations, Adaptation, AdaptedTrait, One, May, modifier, Symbol, Mark, Word, Part}
 use Rattle.stan_model_statements.specs.Rules.{Rule, namespace_statement, namespace_block, use_declaration, top_statement, namespace_name, tops, use_kind, use_list, use_group, use_item, further_use_item, use_alias, group_items, group_item, further_group_item, group_end, comma_group_end, block_statement, empty_statement, expression_statement, echo_statement, return_statement, if_statement, while_statement, do_statement, for_statement, for_each_statement, switch_statement, break_statement, continue_statement, try_statement, unset_statement, global_statement, static_statement, const_statement, declare_statement, function_statement, class_statement, interface_statement, trait_statement, block, condition, expressions, further_expression, value_part, else_if_part, else_part, for_head, for_each_head, reference_target, value_target, keyed_target, cases, case_part, default_part, levels, catches, only_finally, catch_part, catch_head, further_class, catch_variable, finally_part, unset_list, further_argument, closing, comma_closing, further_global, declared, further_declared, constant, further_constant, directive, default, by_reference, no_parameters, parameters, parameter, further_parameter, visible, variadic, return_type, nullable_type, union_type, further_type, class_modifier, extends, interface_extends, implements, class_names, further_name, class_body, trait_use, constants_member, method_member, modified_member, member_modifier, modified_constants, modified_method, modified_properties, class_constants, class_constant, further_class_constant, method, block_body, no_body, properties, nullable_property_type, static_property_type, union_property_type, no_adaptations, adaptations, adaptation_list, adaptation, adapted_trait, precedence, alias, alias_visibility, visible_alias, plain_alias, symbols, sort_of}
 use Rattle.stan_model_statements.specs.Forests.{Forest}
 use Rattle.stan_model_statements.specs.Grammar.{Runs, Any}
-use Rattle.stan_stmt_rules.specs.Ahead.{expression_kinds, statement_kinds, starts, begins, single, find, firsts, Choice, statement_choices, member_choices, modified_choices, property_type_choices, namespace_by, top_by, static_by, alias_by, pick, Next}
-use Rattle.stan_stmt_law.proofs.Words.{and_both, or_split, truth, clash, same_is, same_at, some_is, stands_kind, apart, apart_has, subset, subset_has}
+use Rattle.stan_stmt_rules.specs.Ahead.{expression_kinds, statement_kinds, starts, begins, single, find, Choice, statement_choices, member_choices, modified_choices, property_type_choices, namespace_by, static_by, Next}
+use Rattle.stan_stmt_law.proofs.Words.{or_split, truth, clash, same_is, apart, apart_has, subset, subset_has}
 use Rattle.stan_stmt_law.proofs.Tables.{other_than, no_start}
 use Rattle.stan_stmt_law.proofs.Checks.{leads, or_right}
 use Rattle.stan_stmt_law.proofs.Runs.{inv_nil, inv_mark, inv_word, inv_checked, inv_expr, inv_part, first_kind, rule_begins}

@@ -1,5 +1,5 @@
 -- A tree is less deep than it is long: each level takes a token.
-use Rattle.std.proofs.Common.{◌≡◌, ℕ, ◌+◌, ◌-◌, ◌≤◌, Bool, true, false, List, Option, Some, None, arith}
+use Rattle.std.proofs.Common.{ℕ, ◌+◌, ◌-◌, ◌≤◌, Bool, true, false, List, arith}
 use Rattle.stan_model_grammar.specs.declared.operators.ArrayStyle.TheVariants as styles
 use Rattle.stan_model_grammar.specs.declared.token.Token.{Token}
 use Rattle.stan_model_grammar.specs.declared.token.TokenKind.{TokenKind}

@@ -8,7 +8,7 @@ use Rattle.stan_model_statements.specs.Symbols.{Sort, Need, One, May, Many, Agai
 use Rattle.stan_model_statements.specs.Rules.{Rule, namespace_statement, symbols}
 use Rattle.stan_model_statements.specs.Forests.{Forest, nil, mark, word, expr, none, some}
 use Rattle.stan_model_statements.specs.Grammar.{Runs}
-use Rattle.stan_model_statements.specs.Takes.{size, repeated_size, counted, takes}
+use Rattle.stan_model_statements.specs.Takes.{size, repeated_size, takes}
 use Rattle.stan_stmt_law.proofs.Checks.{rest_append}
 use Rattle.stan_stmt_law.proofs.Runs.{join}
 use Rattle.stan_stmt_law.proofs.Places.{repeated_join}
@@ -130,8 +130,8 @@ module _ (ts : List Token) (named : Token → Bool) (X Y : Bool → Tree → ℕ
       elim e.2 [
         | inl m ↦ inl (e.0, less, inl m)
         | inr v ↦ elim (exceeds_split (rest n s xs) p o ys f g h.0 b i.0 d h.4 i.4 (subst (λ zs. Exceeds zs (join p g) (join o f)) (sym (rest_append n s xs ys)) v.1)) [
-            | inl m ↦ inl (e.0, less, inr (v.0, m))
-            | inr w ↦ inr (ap (λ z. some z qs p) e.0 ∙ ap₂ (some r) v.0 w.0, w.1)
-          ]
+          | inl m ↦ inl (e.0, less, inr (v.0, m))
+          | inr w ↦ inr (ap (λ z. some z qs p) e.0 ∙ ap₂ (some r) v.0 w.0, w.1)
+        ]
       ]
   exceeds_split xs p o ys f g a b c d h i e = absurd assumption

@@ -1,30 +1,30 @@
 -- The expressions of PHP are what the grammar of files asks of expressions.
-use Rattle.std.proofs.Common.{◌≡◌, ℕ, ◌+◌, ◌-◌, ◌≤◌, ◌<◌, Bool, true, false, List, Option, Some, None, length, refl, sym, ap, subst, ◌∙◌, ◌⊎◌, inl, inr, arith}
+use Rattle.std.proofs.Common.{◌≡◌, ℕ, ◌+◌, ◌-◌, ◌≤◌, ◌<◌, suc, Bool, true, false, List, Some, None, length, ◌&&◌, refl, ap, subst, ◌⊎◌, inl, inr, arith}
+use Rattle.std.specs.Prelude.{nat_le, if◌then◌else◌}
+use Rattle.std.proofs.lemmas.Bool.{le-leb, leb-true}
 use Rattle.stan_model_grammar.specs.declared.token.Token.{Token}
 use Rattle.stan_model_grammar.specs.declared.token.TokenKind.{TokenKind}
-use Rattle.stan_model_grammar.specs.declared.token.TokenKind.TheVariants as k
 use Rattle.stan_model_grammar.specs.Depth.{depth}
 use Rattle.stan_model_grammar.specs.Expressions.{IsEnd}
-use Rattle.stan_model_grammar.specs.Strata.{kind_at, loosest}
-use Rattle.stan_model_grammar.specs.Takes.{size, takes, More}
+use Rattle.stan_model_grammar.specs.Strata.{kind_at, is_end, loosest}
+use Rattle.stan_model_grammar.specs.Takes.{takes, More}
 use Rattle.stan_model_grammar.specs.Trees.{Tree, is_pattern}
 use Rattle.stan_model_statements.specs.Grammar.{Ends}
 use Rattle.stan_expr_rules.specs.Parse.{Read, strata, below}
 use Rattle.stan_expr_rules.proofs.Greedy.{Greedy, plain, plain_of}
 use Rattle.stan_expr_rules.proofs.InsideLemmas.{reads_inside}
 use Rattle.stan_expr_greedy.proofs.Complete.{level_complete, one_is_picked}
+use Rattle.stan_expr_greedy.proofs.Sound.{below_sound}
 use Rattle.stan_expr_law.proofs.Spelled.{Free, picked_spell}
 use Rattle.stan_expr_law.proofs.SizeLemmas.{reads_size}
 use Rattle.stan_expr_takes.proofs.TakesPatterns.{some_greedy}
 use Rattle.stan_expr_takes.proofs.TakesStrata.{all_most}
+use Rattle.stan_stmt_rules.specs.Parse.{most, fitting, behind_of}
+use Rattle.stan_stmt_rules.specs.Parse as parse
 use Rattle.stan_stmt_law.proofs.DepthLemmas.{reads_shallow}
 use Rattle.stan_stmt_law.proofs.Runs.{AreExpressions}
 use Rattle.stan_stmt_law.proofs.Starts.{tree_starts, end_unassigned}
-use Rattle.stan_stmt_law.proofs.Words.{truth}
-
-abbrev pub behind_of : List Token → Read Tree → TokenKind
-behind_of ts None = k.End
-behind_of ts (Some x) = kind_at ts x.1
+use Rattle.stan_stmt_law.proofs.Words.{truth, and_split, some_is}
 
 -- the token behind the expression that begins there
 abbrev pub behind : List Token → ℕ → TokenKind
@@ -76,3 +76,35 @@ module _ (ts : List Token) where
     one = λ p e g at b c h i. one_is_picked ts e g p loosest at b c (omega arith) (omega arith) h.0 i.0;
     picked = picked;
   }
+
+  -- ---- what the parser reads
+
+  fits : (levels : ℕ) (o : Read Tree) (x : Tree × ℕ) → fitting ts levels o ≡ Some x → (o ≡ Some x) × (is_end (kind_at ts x.1) ≡ true) × (depth x.0 + levels ≤ most)
+  fits levels None x h = absurd cc
+  fits levels (Some y) x h = by_test (is_end (kind_at ts y.1) && nat_le (depth y.0 + levels) most) refl h
+    where
+      by_test : (b : Bool) → (is_end (kind_at ts y.1) && nat_le (depth y.0 + levels) most) ≡ b → (if b then Some y else None) ≡ Some x → (Some y ≡ Some x) × (is_end (kind_at ts x.1) ≡ true) × (depth x.0 + levels ≤ most)
+      by_test true e same =
+          let both = and_split (is_end (kind_at ts y.1)) (nat_le (depth y.0 + levels) most) e in
+          let is = some_is y x same in
+          (same, subst (λ (z : Tree × ℕ). is_end (kind_at ts z.1) ≡ true) is both.0, subst (λ (z : Tree × ℕ). depth z.0 + levels ≤ most) is (leb-true (depth y.0 + levels) most both.1))
+      by_test false e same = absurd cc
+
+  pub sound : (levels : ℕ) (p : Bool) (at : ℕ) (x : Tree × ℕ) → levels ≤ most → parse.expression ts levels p at ≡ Some x → Picked ts p x.0 at x.1 × (depth x.0 + levels ≤ most)
+  unfolding below
+  sound levels p at x le h =
+      let w = fits levels (strata ts (below ts (most - levels)) p (loosest - 5) at) x h in
+      ((below_sound ts (suc (most - levels)) p loosest at x (omega arith) (omega arith) w.0, w.1), w.2)
+
+  pub whole : (levels : ℕ) (p : Bool) (at b : ℕ) (e : Tree) → Picked ts p e at b → depth e + levels ≤ most → parse.expression ts levels p at ≡ Some (e, b)
+  whole levels p at b e h d =
+      let read = level_complete ts e (most - levels) p loosest at b (omega arith) (omega arith) h.0 (omega (arith, d)) in
+      let ended : is_end (kind_at ts b) ≡ true = h.1 in
+      let shallow = le-leb (depth e + levels) most d in
+      rw read (rw (ended, shallow) refl)
+
+  pub seeing : (levels : ℕ) (p : Bool) (at b : ℕ) (e : Tree) → Picked ts p e at b → depth e + levels ≤ most → parse.behind ts levels at ≡ kind_at ts b
+  seeing levels p at b e h d = ap (behind_of ts) (whole levels true at b e (loosened p e at b h.0, h.1) d)
+
+  pub picked_within : (p : Bool) (e : Tree) (at b : ℕ) → Picked ts p e at b → b ≤ length ts
+  picked_within p e at b h = (within p e at b (picked_spell ts p loosest e at b h.0, h.1)).1

@@ -1,14 +1,13 @@
 -- How deep productions nest: no deeper than the levels that they open allow.
-use Rattle.std.proofs.Common.{◌≡◌, ℕ, ◌+◌, ◌-◌, ◌*◌, ◌≤◌, ◌<◌, Bool, true, false, List, [], ◌∷◌, Option, refl, sym, ap, subst, ◌∙◌, ◌⊎◌, inl, inr, arith, ◌&&◌}
-use Rattle.std.specs.Prelude.{max, nat_le, if◌then◌else◌}
+use Rattle.std.proofs.Common.{◌≡◌, ℕ, ◌+◌, ◌-◌, ◌*◌, ◌≤◌, Bool, true, List, [], ◌∷◌, Option, refl, sym, subst, arith, ◌&&◌}
+use Rattle.std.specs.Prelude.{nat_le, if◌then◌else◌}
 use Rattle.std.proofs.lemmas.Bool.{leb-true}
 use Rattle.stan_model_grammar.specs.declared.token.Token.{Token}
-use Rattle.stan_model_statements.specs.Symbols.{Sort, Top, UseRest, UseItem, FurtherUseItem, GroupItem, FurtherGroupItem, Statement, Expressions, ElseIfPart, ElsePart, ForEachTarget, Case, Handlers, CatchPart, FinallyPart, Declared, FurtherDeclared, FurtherConstant, Parameter, FurtherParameter, ReturnType, WrittenType, InterfaceExtends, Implements, Names, Member, Modified, ClassConstants, FurtherClassConstant, Method, MethodBody, Properties, PropertyType, TraitUseEnd, Adaptation, AdaptationRest, Need, One, May, Many, Again, Check, Symbol, Mark, Word, Checked, Expression, Part, rest}
+use Rattle.stan_model_statements.specs.Symbols.{Sort, Top, UseRest, UseItem, FurtherUseItem, GroupItem, FurtherGroupItem, Statement, Expressions, ElseIfPart, ElsePart, ForEachTarget, Case, Handlers, CatchPart, FinallyPart, Declared, FurtherDeclared, FurtherConstant, Parameter, FurtherParameter, ReturnType, WrittenType, InterfaceExtends, Implements, Names, Member, Modified, ClassConstants, FurtherClassConstant, Method, MethodBody, Properties, PropertyType, TraitUseEnd, Adaptation, AdaptationRest, Need, One, May, Many, Again, Symbol, Mark, Word, Checked, Expression, Part, rest}
 use Rattle.stan_model_statements.specs.Rules.{Rule, namespace_statement, symbols, sort_of, weight}
 use Rattle.stan_model_grammar.specs.Trees.{Tree}
 use Rattle.stan_model_statements.specs.Forests.{Forest, nil, mark, word, expr, none, some}
 use Rattle.stan_model_statements.specs.Grammar.{Runs}
-use Rattle.stan_model_grammar.specs.Depth.{depth as tree_depth}
 use Rattle.stan_model_statements.specs.Takes.{depth}
 use Rattle.stan_stmt_law.proofs.Words.{and_split}
 use Rattle.stan_stmt_law.proofs.Reading.{height}

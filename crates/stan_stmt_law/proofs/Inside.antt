@@ -1,17 +1,16 @@
 -- What runs of symbols spell ends within the tokens.
-use Rattle.std.proofs.Common.{◌≡◌, ℕ, ◌+◌, ◌≤◌, ◌<◌, Bool, true, false, List, [], ◌∷◌, length, Option, Some, None, refl, sym, ap, subst, ◌∙◌, ◌⊎◌, inl, inr, arith, ◌&&◌}
+use Rattle.std.proofs.Common.{◌≡◌, ℕ, ◌+◌, ◌≤◌, ◌<◌, Bool, true, false, List, [], ◌∷◌, length, Option, Some, None, refl, sym, ap, subst, ◌∙◌, inl, inr, arith, ◌&&◌}
 use Rattle.std.specs.Prelude.{not, slice_get}
 use Rattle.std.proofs.lemmas.Bool.{cases_lt}
 use Rattle.std.proofs.lemmas.Option.{slice_get_past}
 use Rattle.stan_model_grammar.specs.declared.token.TokenKind.{TokenKind}
 use Rattle.stan_model_grammar.specs.declared.token.TokenKind.TheVariants as k
 use Rattle.stan_model_grammar.specs.declared.token.Token.{Token}
-use Rattle.stan_model_statements.specs.Kinds.{same_kind, has}
 use Rattle.stan_model_grammar.specs.Strata.{kind_at, kind_of}
 use Rattle.stan_model_grammar.specs.Expressions.{Is, Stands}
 use Rattle.stan_stmt_rules.specs.Parse.{after, after_of}
-use Rattle.stan_model_statements.specs.Symbols.{Sort, Need, One, May, Many, Again, Check, Symbol, Mark, Word, Checked, Expression, Part, lacks, rest}
-use Rattle.stan_model_statements.specs.Rules.{Rule, namespace_statement, symbols, sort_of, weight}
+use Rattle.stan_model_statements.specs.Symbols.{Sort, Need, One, May, Many, Again, Symbol, Mark, Word, Checked, Expression, Part, rest}
+use Rattle.stan_model_statements.specs.Rules.{Rule, namespace_statement, symbols}
 use Rattle.stan_model_grammar.specs.Trees.{Tree}
 use Rattle.stan_model_statements.specs.Forests.{Forest, nil, mark, word, expr, none, some}
 use Rattle.stan_model_statements.specs.Grammar.{Runs}

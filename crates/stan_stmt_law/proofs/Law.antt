@@ -1,5 +1,5 @@
 -- The law of the grammar: what any tree spells, where no token follows that goes on with it, the greedy tree spells, and it takes more.
-use Rattle.std.proofs.Common.{◌≡◌, ℕ, zero, suc, ◌+◌, ◌≤◌, ◌<◌, Bool, true, false, List, [], ◌∷◌, ◌++◌, length, Option, Some, None, refl, sym, ap, ap₂, subst, ◌∙◌, ◌⊎◌, inl, inr, arith, ◌&&◌, append_assoc, eq-or-lt_of_le, true≢false}
+use Rattle.std.proofs.Common.{◌≡◌, ℕ, zero, suc, ◌+◌, ◌≤◌, ◌<◌, Bool, true, false, List, [], ◌∷◌, ◌++◌, Option, Some, None, refl, sym, ap, ap₂, subst, ◌∙◌, ◌⊎◌, inl, inr, arith, ◌&&◌, true≢false}
 use Rattle.std.specs.Prelude.{not, ◌||◌}
 use Rattle.stan_model_grammar.specs.declared.token.TokenKind.{TokenKind}
 use Rattle.stan_model_grammar.specs.declared.token.Token.{Token}
@@ -15,9 +15,9 @@ use Rattle.stan_model_statements.specs.Grammar.{checked_kinds, Holds, Runs, Any}
 use Rattle.stan_model_grammar.specs.Strata.{loosest}
 use Rattle.stan_model_grammar.specs.Takes.{size as tree_size, takes as tree_takes, More}
 use Rattle.stan_model_statements.specs.Takes.{size, repeated_size, takes}
-use Rattle.stan_stmt_law.proofs.Words.{implies, and_split, or_split, apart, apart_has, subset_has, and_both, implied, truth, clash, some_is, see, not_false, one_token, or_none, stands_kind}
-use Rattle.stan_stmt_law.proofs.Checks.{closed, goes, tails, no_sort, excludes, fine, shuts, head_ok, mild, fine_split, fine_within, true_not, rest_append, owned, owned_by, quiet, open_end, or_right}
-use Rattle.stan_stmt_law.proofs.Tables.{starts_has, none_picked, picked_begins, picked_sort, quiet_owner, quiet_picked, dangling_owner, excluded}
+use Rattle.stan_stmt_law.proofs.Words.{implies, and_split, or_split, apart, apart_has, subset_has, and_both, implied, truth, clash, some_is, see, not_false, one_token, stands_kind}
+use Rattle.stan_stmt_law.proofs.Checks.{closed, goes, tails, no_sort, excludes, fine, shuts, head_ok, mild, fine_split, fine_within, true_not, owned, owned_by, quiet, open_end, or_right}
+use Rattle.stan_stmt_law.proofs.Tables.{starts_has, picked_begins, picked_sort, quiet_owner, quiet_picked, dangling_owner, excluded}
 use Rattle.stan_stmt_law.proofs.Runs.{join, inv_nil, inv_mark, inv_word, inv_checked, inv_expr, inv_part, append, split, cut, AreExpressions, taken, rises, rule_begins, rule_takes}
 use Rattle.stan_stmt_law.proofs.Places.{tail, behind_items, Before, before_self, before_chain, before_tail, before_once, before_drop, places, head_place, fronts, end_is}
 use Rattle.stan_stmt_law.proofs.Decided.{decided}

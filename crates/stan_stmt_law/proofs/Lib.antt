@@ -3,6 +3,7 @@ pub mod Decided
 pub mod DepthLemmas
 pub mod Exceeds
 pub mod Expressions
+pub mod Front
 pub mod Heights
 pub mod Inside
 pub mod Law

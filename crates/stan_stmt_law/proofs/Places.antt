@@ -1,15 +1,14 @@
 -- Where each symbol of a run begins. Of two runs of the same symbols one is ahead where its places are no smaller.
-use Rattle.std.proofs.Common.{◌≡◌, ℕ, zero, suc, Bool, ◌+◌, ◌≤◌, ◌<◌, List, [], ◌∷◌, ◌++◌, length, Option, refl, sym, ap, subst, ◌∙◌, arith}
+use Rattle.std.proofs.Common.{◌≡◌, ℕ, suc, Bool, ◌+◌, ◌≤◌, List, [], ◌∷◌, ◌++◌, length, Option, refl, sym, ap, ◌∙◌, arith}
 use Rattle.stan_model_grammar.specs.declared.token.Token.{Token}
 use Rattle.stan_model_statements.specs.Symbols.{Sort, Need, One, May, Many, Again, Symbol, Mark, Word, Checked, Expression, Part, rest}
-use Rattle.stan_model_statements.specs.Rules.{Rule, symbols}
+use Rattle.stan_model_statements.specs.Rules.{Rule}
 use Rattle.stan_model_grammar.specs.Trees.{Tree}
 use Rattle.stan_model_statements.specs.Forests.{Forest, nil, mark, word, expr, none, some}
 use Rattle.stan_model_statements.specs.Grammar.{Runs}
 use Rattle.stan_model_grammar.specs.Takes.{size as tree_size}
 use Rattle.stan_model_statements.specs.Takes.{size, repeated_size}
 use Rattle.stan_stmt_law.proofs.Runs.{join}
-use Rattle.stan_stmt_law.proofs.Checks.{rest_append}
 
 abbrev pub tail : List ℕ → List ℕ
 tail [] = []

@@ -6,19 +6,19 @@ use Rattle.stan_model_grammar.specs.declared.token.TokenKind.{TokenKind}
 use Rattle.stan_model_grammar.specs.declared.token.Token.{Token}
 use Rattle.stan_model_statements.specs.Kinds.{same_kind, has}
 use Rattle.stan_model_grammar.specs.Strata.{kind_at, kind_of}
-use Rattle.stan_model_grammar.specs.Expressions.{Is, Stands}
+use Rattle.stan_model_grammar.specs.Expressions.{Stands}
 use Rattle.stan_stmt_rules.specs.Parse.{after, after_of, word_at, word_of, holds, checked_of, checked_at}
 use Rattle.stan_model_statements.specs.Symbols.{Sort, ForEachTarget, Need, One, May, Many, Again, Check, strict_types, modifier, Symbol, Mark, Word, Checked, Expression, Part, lacks, rest}
 use Rattle.stan_model_statements.specs.Rules.{Rule, namespace_statement, symbols, sort_of, weight}
-use Rattle.stan_stmt_rules.specs.Ahead.{pick, pick_at, Next, expression_kinds}
+use Rattle.stan_stmt_rules.specs.Ahead.{pick, pick_at, Next}
 use Rattle.stan_model_grammar.specs.Trees.{Tree}
 use Rattle.stan_model_statements.specs.Forests.{Forest, nil, mark, word, expr, none, some}
 use Rattle.stan_model_statements.specs.Grammar.{checked_kinds, Holds, Runs, Any}
 use Rattle.stan_model_grammar.specs.Depth.{depth as tree_depth}
 use Rattle.stan_model_statements.specs.Takes.{depth}
 use Rattle.stan_expr_rules.specs.Parse.{Read, ◌>>=◌}
-use Rattle.stan_stmt_rules.specs.Parse.{choose, onto, most, Piece, standing, optional, items, pieced, one, may, many, all, run, read}
-use Rattle.stan_stmt_law.proofs.Words.{not_false, and_split, some_is, see, truth, same_is, same_at}
+use Rattle.stan_stmt_rules.specs.Parse.{onto, most, Piece, standing, optional, items, pieced, one, may, many, all, run, read}
+use Rattle.stan_stmt_law.proofs.Words.{not_false, and_split, some_is, see, same_is}
 use Rattle.stan_stmt_law.proofs.Tables.{picked_sort}
 use Rattle.stan_model_grammar.specs.declared.token.TokenKind.TheVariants as k
 use Rattle.stan_stmt_law.proofs.Checks.{true_not}

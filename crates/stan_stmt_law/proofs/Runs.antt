@@ -1,22 +1,21 @@
 -- Runs of symbols: taken apart, behind one another, and how many tokens they take.
-use Rattle.std.proofs.Common.{◌≡◌, ℕ, ◌+◌, ◌≤◌, ◌<◌, Bool, true, false, List, [], ◌∷◌, ◌++◌, Option, Some, None, refl, sym, ap, ap₂, subst, ◌∙◌, ◌⊎◌, inl, inr, arith, ◌&&◌}
+use Rattle.std.proofs.Common.{◌≡◌, ℕ, ◌+◌, ◌≤◌, ◌<◌, Bool, true, List, [], ◌∷◌, ◌++◌, Option, Some, None, refl, sym, ap, subst, ◌⊎◌, inl, inr, arith}
 use Rattle.stan_model_grammar.specs.declared.token.TokenKind.{TokenKind}
 use Rattle.stan_model_grammar.specs.declared.token.Token.{Token}
 use Rattle.stan_model_statements.specs.Kinds.{has}
 use Rattle.stan_model_grammar.specs.Strata.{kind_at}
 use Rattle.stan_model_grammar.specs.Expressions.{Is, Stands}
-use Rattle.stan_model_statements.specs.Symbols.{Sort, Need, One, May, Many, Again, Check, Symbol, Mark, Word, Checked, Expression, Part, lacks, rest}
+use Rattle.stan_model_statements.specs.Symbols.{Sort, Need, Check, Symbol, Mark, Word, Checked, Expression, Part, lacks, rest}
 use Rattle.stan_model_statements.specs.Rules.{Rule, symbols, sort_of}
-use Rattle.stan_stmt_rules.specs.Ahead.{expression_kinds, starts, begins, pick}
+use Rattle.stan_stmt_rules.specs.Ahead.{expression_kinds, starts, begins}
 use Rattle.stan_model_grammar.specs.Trees.{Tree}
 use Rattle.stan_model_statements.specs.Forests.{Forest, nil, mark, word, expr, none, some}
-use Rattle.stan_model_statements.specs.Grammar.{checked_kinds, Holds, Runs, Any}
+use Rattle.stan_model_statements.specs.Grammar.{checked_kinds, Holds, Runs}
 use Rattle.stan_model_grammar.specs.Strata.{loosest}
 use Rattle.stan_model_grammar.specs.Takes.{size as tree_size, takes as tree_takes, More}
 use Rattle.stan_model_statements.specs.Takes.{size}
-use Rattle.stan_stmt_law.proofs.Words.{implies, and_split, implied, not_false, apart, subset, subset_has, apart_has, clash, truth, stands_kind, one_token, some_is}
-use Rattle.stan_stmt_law.proofs.Checks.{closed, leads, leads_of, rest_append}
-use Rattle.stan_stmt_law.proofs.Tables.{starts_has}
+use Rattle.stan_stmt_law.proofs.Words.{implies, and_split, implied, subset, subset_has, stands_kind}
+use Rattle.stan_stmt_law.proofs.Checks.{leads, leads_of, rest_append}
 
 -- one forest behind another
 abbrev pub join : Forest → Forest → Forest

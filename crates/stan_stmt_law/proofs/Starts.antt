@@ -1,6 +1,6 @@
 -- With which three tokens an expression begins.
-use Rattle.std.proofs.Common.{◌≡◌, ◌≢◌, ℕ, ◌+◌, ◌-◌, Bool, true, false, None, Some, Option, List, refl, sym, ap, subst, ◌∙◌, ◌&&◌, ◌⊎◌, inl, inr, arith, true≢false}
-use Rattle.std.specs.Prelude.{IsTrue, not, ◌||◌}
+use Rattle.std.proofs.Common.{◌≡◌, ℕ, ◌+◌, ◌-◌, Bool, true, false, None, Some, Option, List, refl, sym, subst, ◌∙◌, inl, inr, arith, true≢false}
+use Rattle.std.specs.Prelude.{IsTrue}
 use Rattle.stan_model_grammar.specs.declared.operators.ArrayStyle.TheVariants as styles
 use Rattle.stan_model_grammar.specs.declared.operators.AssignmentOperator.{AssignmentOperator}
 use Rattle.stan_model_grammar.specs.declared.operators.BinaryOperator.{BinaryOperator}
@@ -10,12 +10,12 @@ use Rattle.stan_model_grammar.specs.declared.token.Token.{Token}
 use Rattle.stan_model_grammar.specs.declared.token.TokenKind.{TokenKind}
 use Rattle.stan_model_grammar.specs.declared.token.TokenKind.TheVariants as k
 use Rattle.stan_model_grammar.specs.Strata.{kind_at, leaf_of, prefix_of, binary_at, binary_stratum, assignment_at, tighter, is_exit, is_end}
-use Rattle.stan_model_grammar.specs.Trees.{Tree, node, Form, Single, Brackets, Array, IsSet, Empty, Exit, New, Match, Closure, Arrow, Text, Post, Prefix, Assignment, Chain, Binary, Conditional, Steps, no_step, step, Step, Push, Index, Property, Scoped, Call, Increment, Decrement, Operation, Part, Inserted, Further}
-use Rattle.stan_model_grammar.specs.Expressions.{Is, May, IsSomeStep, StepSort, suffix, operation, arrow, Reads, Forms, Repeats, StepReads}
+use Rattle.stan_model_grammar.specs.Trees.{Tree, node, Form, Single, Brackets, Array, IsSet, Empty, Exit, New, Match, Closure, Arrow, Text, Post, Prefix, Assignment, Chain, Binary, Conditional, Steps, no_step, step, Push, Index, Property, Scoped, Call, Increment, Decrement, Operation, Part, Inserted, Further}
+use Rattle.stan_model_grammar.specs.Expressions.{Is, May, IsSomeStep, suffix, operation, arrow, Reads, Forms, Repeats}
 use Rattle.stan_model_statements.specs.Kinds.{same_kind, has}
 use Rattle.stan_stmt_rules.specs.Ahead.{other_kinds, starts}
-use Rattle.stan_stmt_law.proofs.Checks.{or_left, or_right}
-use Rattle.stan_stmt_law.proofs.Words.{same_is, truth}
+use Rattle.stan_stmt_law.proofs.Checks.{or_left}
+use Rattle.stan_stmt_law.proofs.Words.{truth}
 
 -- such a token begins an expression, whatever stands behind it
 other_starts : (a b c : TokenKind) → has other_kinds a ≡ true → starts a b c ≡ true
@@ -182,6 +182,7 @@ module _ (ts : List Token) (Stops : ℕ → ℕ → ℕ → Type 0) where
 
   mutual
     unfolding same_kind
+
     pub tree_starts : (t : Tree) (p : Bool) (j at to : ℕ) → Reads ts Stops p j t at to → Unassigned to → Starts at
     tree_starts (node t f) p j at to h n = form_starts f p j at to h.1 n
 

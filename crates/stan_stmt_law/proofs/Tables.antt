@@ -1,13 +1,13 @@
 -- What the look-ahead says of the productions.
-use Rattle.std.proofs.Common.{◌≡◌, ℕ, ◌+◌, Bool, true, false, cond, List, [], ◌∷◌, Option, Some, None, refl, sym, ap, subst, ◌∙◌, ◌&&◌, ◌⊎◌, inl, inr, true≢false, ◌++◌}
+use Rattle.std.proofs.Common.{◌≡◌, Bool, true, false, List, [], ◌∷◌, Option, Some, None, refl, sym, subst, ◌∙◌, ◌&&◌, inl, inr, true≢false, ◌++◌}
 use Rattle.std.specs.Prelude.{not, ◌||◌, if◌then◌else◌}
 use Rattle.stan_model_grammar.specs.declared.token.TokenKind.{TokenKind}
 use Rattle.stan_model_grammar.specs.declared.token.TokenKind.TheVariants as k
 use Rattle.stan_model_statements.specs.Kinds.{same_kind, has, names, visibilities, alias_names, member_names, modifiers, type_names}
 use Rattle.stan_model_statements.specs.Symbols.{Sort, Top, UseRest, GroupItem, FurtherGroupItem, GroupEnd, Statement, ElseIfPart, ElsePart, ForEachTarget, Case, Handlers, CatchPart, FinallyPart, FurtherArgument, Closing, ParameterList, Parameter, FurtherParameter, WrittenType, Member, Modifier, Modified, MethodBody, PropertyType, TraitUseEnd, AdaptedTrait, AdaptationRest, Alias}
 use Rattle.stan_model_statements.specs.Rules.{Rule, namespace_statement, namespace_block, use_declaration, top_statement, use_list, use_group, further_group_item, group_end, comma_group_end, expression_statement, else_if_part, else_part, reference_target, catch_part, finally_part, further_argument, closing, comma_closing, no_parameters, parameters, further_parameter, nullable_type, union_type, member_modifier, modified_properties, static_property_type, adapted_trait, alias_visibility, visible_alias, plain_alias, sort_of}
-use Rattle.stan_stmt_rules.specs.Ahead.{other_kinds, expression_kinds, statement_kinds, starts, begins, single, Choice, find, firsts, statement_choices, target_choices, case_choices, handler_choices, member_choices, modified_choices, body_choices, property_type_choices, trait_use_choices, adaptation_choices, namespace_by, top_by, closing_by, further_by, static_by, alias_by, pick, owner, dangles, leads_on}
-use Rattle.stan_stmt_law.proofs.Words.{implies, and_split, or_split, or_none, truth, not_false, clash, some_is, same_is, same_at, subset, apart, apart_has, subset_has}
+use Rattle.stan_stmt_rules.specs.Ahead.{other_kinds, expression_kinds, statement_kinds, starts, begins, single, Choice, find, firsts, statement_choices, target_choices, case_choices, handler_choices, member_choices, modified_choices, body_choices, property_type_choices, trait_use_choices, adaptation_choices, namespace_by, top_by, closing_by, further_by, static_by, alias_by, pick, owner, dangles}
+use Rattle.stan_stmt_law.proofs.Words.{and_split, or_split, or_none, truth, not_false, clash, some_is, same_is, subset, apart, apart_has}
 use Rattle.stan_stmt_law.proofs.Checks.{unhas, owned_by, owned, quiet, excludes, or_left, or_right}
 
 -- ---- productions by their first token
@@ -67,9 +67,9 @@ unfolding same_kind
 starts_has a b c h = elim (or_split (has other_kinds a) _ h) [
   | inl e ↦ or_right (same_kind a k.Static) _ (or_right (same_kind a k.Function) (has other_kinds a) e)
   | inr e ↦ elim (or_split (same_kind a k.Static && not (same_kind b k.Variable)) _ e) [
-      | inl f ↦ or_left (same_kind a k.Static) _ (and_split (same_kind a k.Static) _ f).0
-      | inr f ↦ or_right (same_kind a k.Static) _ (or_left (same_kind a k.Function) (has other_kinds a) (and_split (same_kind a k.Function) _ f).0)
-    ]
+    | inl f ↦ or_left (same_kind a k.Static) _ (and_split (same_kind a k.Static) _ f).0
+    | inr f ↦ or_right (same_kind a k.Static) _ (or_left (same_kind a k.Function) (has other_kinds a) (and_split (same_kind a k.Function) _ f).0)
+  ]
 ]
 
 pub no_start : (a b c : TokenKind) → has expression_kinds a ≡ false → starts a b c ≡ false

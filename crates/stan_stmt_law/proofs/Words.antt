@@ -1,6 +1,6 @@
 -- Truth values, and lists of kinds of tokens.
-use Rattle.std.proofs.Common.{◌≡◌, ℕ, ◌+◌, Bool, true, false, cond, List, [], ◌∷◌, Option, Some, None, refl, sym, ap, subst, ◌∙◌, ◌⊎◌, inl, inr, rules, ◌&&◌}
-use Rattle.std.specs.Prelude.{not, ◌||◌, slice_get}
+use Rattle.std.proofs.Common.{◌≡◌, ℕ, Bool, true, false, List, [], ◌∷◌, Option, Some, None, refl, sym, ap, subst, ◌∙◌, ◌⊎◌, inl, inr, rules, ◌&&◌}
+use Rattle.std.specs.Prelude.{not, ◌||◌}
 use denote.Enum.Bare.{same_true, true_same}
 use Rattle.stan_model_grammar.specs.contracts.token.TokenKind.{the_type}
 use Rattle.stan_model_grammar.specs.declared.token.TokenKind.{TokenKind}

@@ -4,7 +4,7 @@ use Rattle.stan_model_grammar.specs.declared.token.Token.{Token}
 use Rattle.stan_model_grammar.specs.declared.token.TokenKind.{TokenKind}
 use Rattle.stan_model_grammar.specs.declared.token.TokenKind.TheVariants as k
 use Rattle.stan_model_grammar.specs.Strata.{kind_at}
-use Rattle.stan_model_statements.specs.Kinds.{same_kind, has, alias_names, class_modifiers, identifiers, integers, member_names, modifiers, names, property_type_names, type_names, use_kinds, variables, visibilities}
+use Rattle.stan_model_statements.specs.Kinds.{same_kind, has, alias_names, class_modifiers, identifiers, integers, member_names, modifiers, names, type_names, use_kinds, variables, visibilities}
 use Rattle.stan_model_statements.specs.Symbols.{Sort, Top, NamespaceName, Tops, UseKind, UseRest, UseItem, FurtherUseItem, UseAlias, GroupItems, GroupItem, FurtherGroupItem, GroupEnd, Statement, Block, Condition, Expressions, FurtherExpression, Value, ElseIfPart, ElsePart, ForHead, ForEachHead, ForEachTarget, Cases, Case, Levels, Handlers, CatchPart, CatchHead, FurtherClass, CatchVariable, FinallyPart, UnsetList, FurtherArgument, Closing, FurtherGlobal, Declared, FurtherDeclared, Constant, FurtherConstant, Directive, Default, ByReference, ParameterList, Parameter, FurtherParameter, Visibility, Variadic, ReturnType, WrittenType, FurtherType, ClassModifier, Extends, InterfaceExtends, Implements, Names, FurtherName, ClassBody, Member, Modifier, Modified, ClassConstants, ClassConstant, FurtherClassConstant, Method, MethodBody, Properties, PropertyType, TraitUseEnd, Adaptations, Adaptation, AdaptedTrait, AdaptationRest, Alias}
 use Rattle.stan_model_statements.specs.Rules.{Rule, namespace_statement, namespace_block, use_declaration, top_statement, namespace_name, tops, use_kind, use_list, use_group, use_item, further_use_item, use_alias, group_items, group_item, further_group_item, group_end, comma_group_end, block_statement, empty_statement, expression_statement, echo_statement, return_statement, if_statement, while_statement, do_statement, for_statement, for_each_statement, switch_statement, break_statement, continue_statement, try_statement, unset_statement, global_statement, static_statement, const_statement, declare_statement, function_statement, class_statement, interface_statement, trait_statement, block, condition, expressions, further_expression, value_part, else_if_part, else_part, for_head, for_each_head, reference_target, value_target, keyed_target, cases, case_part, default_part, levels, catches, only_finally, catch_part, catch_head, further_class, catch_variable, finally_part, unset_list, further_argument, closing, comma_closing, further_global, declared, further_declared, constant, further_constant, directive, default, by_reference, no_parameters, parameters, parameter, further_parameter, visible, variadic, return_type, nullable_type, union_type, further_type, class_modifier, extends, interface_extends, implements, class_names, further_name, class_body, trait_use, constants_member, method_member, modified_member, member_modifier, modified_constants, modified_method, modified_properties, class_constants, class_constant, further_class_constant, method, block_body, no_body, properties, nullable_property_type, static_property_type, union_property_type, no_adaptations, adaptations, adaptation_list, adaptation, adapted_trait, precedence, alias, alias_visibility, visible_alias, plain_alias}
 

@@ -1,14 +1,15 @@
 -- The parser as a function on places, once for all productions.
-use Rattle.std.specs.Prelude.{◌≡◌, ℕ, zero, suc, ◌+◌, ◌≤◌, ◌&&◌, not, nat_le, if◌then◌else◌, Bool, true, false, List, [], ◌∷◌, ◌++◌, length, Option, Some, None, slice_get}
+use Rattle.std.specs.Prelude.{ℕ, zero, suc, ◌+◌, ◌-◌, ◌&&◌, not, nat_le, if◌then◌else◌, Bool, true, List, [], ◌∷◌, ◌++◌, length, Option, Some, None, slice_get}
 use Rattle.stan_model_grammar.specs.declared.token.Token.{Token}
 use Rattle.stan_model_grammar.specs.declared.token.TokenKind.{TokenKind}
 use Rattle.stan_model_grammar.specs.declared.token.TokenKind.TheVariants as k
-use Rattle.stan_model_grammar.specs.Strata.{kind_at}
+use Rattle.stan_model_grammar.specs.Depth.{depth}
+use Rattle.stan_model_grammar.specs.Strata.{kind_at, is_end, loosest}
 use Rattle.stan_model_grammar.specs.Trees.{Tree}
-use Rattle.stan_expr_rules.specs.Parse.{Read, ◌>>=◌}
+use Rattle.stan_expr_rules.specs.Parse.{Read, ◌>>=◌, strata, below}
 use Rattle.stan_model_statements.specs.Kinds.{same_kind, has}
 use Rattle.stan_model_statements.specs.Grammar.{checked_kinds}
-use Rattle.stan_model_statements.specs.Symbols.{Sort, Need, One, May, Many, Again, Check, strict_types, modifier, Symbol, Mark, Word, Checked, Expression, Part}
+use Rattle.stan_model_statements.specs.Symbols.{Sort, One, May, Many, Again, Check, strict_types, modifier, Symbol, Mark, Word, Checked, Expression, Part}
 use Rattle.stan_model_statements.specs.Rules.{Rule, symbols, weight}
 use Rattle.stan_model_statements.specs.Forests.{Forest, nil, mark, word, expr, none, some}
 use Rattle.stan_stmt_rules.specs.Ahead.{pick_at}
@@ -43,15 +44,34 @@ checked_of named (Some t) c next = if has (checked_kinds c) t.kind && holds name
 unfoldable pub checked_at : List Token → (Token → Bool) → Check → ℕ → Option Token
 checked_at ts named c at = checked_of named (slice_get ts at) c (kind_at ts (at + 1))
 
+-- how many levels may be open
+abbrev pub most : ℕ
+most = 200
+
+-- ---- expressions
+
+-- what was read, if an end token follows and it is not too deep where this many levels are open
+abbrev pub fitting : List Token → ℕ → Read Tree → Read Tree
+fitting ts levels None = None
+fitting ts levels (Some x) = if is_end (kind_at ts x.1) && nat_le (depth x.0 + levels) most then Some x else None
+
+-- the expression there, which may be a pattern or not
+abbrev pub expression : List Token → ℕ → Bool → ℕ → Read Tree
+expression ts levels pattern at = fitting ts levels (strata ts (below ts (most - levels)) pattern (loosest - 5) at)
+
+abbrev pub behind_of : List Token → Read Tree → TokenKind
+behind_of ts None = k.End
+behind_of ts (Some x) = kind_at ts x.1
+
+-- the token behind the expression there
+abbrev pub behind : List Token → ℕ → ℕ → TokenKind
+behind ts levels at = behind_of ts (expression ts levels true at)
+
 -- ---- productions
 
 abbrev pub choose : {A B : Type 0} → Option A → (A → B) → B → B
 choose (Some x) f other = f x
 choose None f other = other
-
--- how many levels may be open
-abbrev pub most : ℕ
-most = 200
 
 -- a part: its production, and what it is made of
 abbrev pub Piece : Type 0
