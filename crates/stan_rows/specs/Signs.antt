@@ -1,5 +1,5 @@
 -- What the signs of a row stand for, and what a row wants.
-use Rattle.std.specs.Prelude.{ℕ, ◌==◌, ◌≡◌, ◌++◌, ◌⊎◌, List, [], cond, codes, map}
+use Rattle.std.specs.Prelude.{ℕ, ◌==◌, ◌≡◌, ◌++◌, ◌⊎◌, List, [], ◌∷◌, cond, codes, map}
 use Rattle.std.specs.Str.{chars, trim, encode_utf8_all}
 
 -- What a character of a row stands for: a sign for a byte that can't be seen, or itself.
@@ -35,9 +35,9 @@ IsWrong reads row other =
     ((text : List ℕ) × (wanted : List ℕ) × (row ≡ text ++ (wants_sign ++ wanted)) × reads (trim text) other × (other ≡ plain_text (trim wanted) → ⊥))
     ⊎ ((text wanted : List ℕ) → row ≡ text ++ (wants_sign ++ wanted) → ⊥)
 
--- what stands between the two parts of a text
+-- what stands between the two parts of a text: `⋯` in UTF-8
 abbrev pub parts_sign : List ℕ
-parts_sign = codes "⋯"
+parts_sign = 0xe2 ∷ 0x8b ∷ 0xaf ∷ []
 
 -- The parts of a text are what stands before and behind its sign, the blanks around them aside; without a sign all is the first part.
 abbrev pub ArePartsOf : List ℕ → List ℕ → List ℕ → Type 0
