@@ -1,7 +1,7 @@
 use Rattle.std.proofs.Common.{◌≡◌, map}
 use Rattle.std.specs.Prelude.{string_bytes, filter}
-use Rattle.stan_readings.specs.Rows.{is_row}
-use Rattle.stan_readings.proofs.rows.rows.Given as goal
+use Rattle.stan_rows.specs.Rows.{is_row}
+use Rattle.stan_rows.proofs.lines.rows.Given as goal
 
 abbrev pub invariant-loop-line : goal.invariant-loop-line
 invariant-loop-line l =

@@ -3,7 +3,7 @@ use Rattle.std.proofs.Common.{◌≡◌, ℕ, List, [], ◌∷◌, ◌++◌, map
 use Rattle.std.specs.Prelude.{filter}
 use Rattle.std.proofs.lemmas.List.{map-append}
 use Rattle.std.proofs.lemmas.List.Elements.{filter-append}
-use Rattle.stan_readings.specs.Rows.{is_row}
+use Rattle.stan_rows.specs.Rows.{is_row}
 
 -- a line more
 pub line-more : {X : Type 0} (f : X → List ℕ) (lines : List X) (line : X) (old new : List (List ℕ)) → new ≡ old ++ filter is_row (f line ∷ []) → old ≡ filter is_row (map f lines) → new ≡ filter is_row (map f (lines ++ line ∷ []))

@@ -2,9 +2,9 @@ use Rattle.std.proofs.Common.{◌∙◌, map, ap, lit<, rules}
 use Rattle.std.specs.Prelude.{string_bytes, filter}
 use Rattle.std.proofs.lemmas.Iterator.Consumers.{YieldsList-end, YieldsList-at}
 use Rattle.std.proofs.lemmas.Iterator.Splits.{YieldsList-from_str_split}
-use Rattle.stan_readings.specs.Rows.{is_row}
-use Rattle.stan_readings.proofs.RowLemmas.{line-more}
-use Rattle.stan_readings.proofs.rows.rows.Goals as goal
+use Rattle.stan_rows.specs.Rows.{is_row}
+use Rattle.stan_rows.proofs.RowLemmas.{line-more}
+use Rattle.stan_rows.proofs.lines.rows.Goals as goal
 
 pub loop-line-preserved : goal.loop-line-preserved
 loop-line-preserved c =
