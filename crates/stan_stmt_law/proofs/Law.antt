@@ -62,9 +62,6 @@ module _ (ts : List Token) (named : Token → Bool) (X Y : Bool → Tree → ℕ
   abbrev places_of : List Symbol → Forest → ℕ → List ℕ
   places_of = places
 
-  abbrev takes_of : List Symbol → Forest → List ℕ
-  takes_of = takes
-
   pub begun : (p : Bool) (e : Tree) (at b : ℕ) → X p e at b → (at < b) × (has expression_kinds (kind_at ts at) ≡ true)
   begun p e at b h = (exs.some p e at b h, starts_has (kind_at ts at) (kind_at ts (at + 1)) (kind_at ts (at + 2)) (exs.starting p e at b h))
 

@@ -123,12 +123,6 @@ steady_others May s xs h = (steady_part May s xs refl h).1
 steady_others Many s xs h = (steady_part Many s xs refl h).1
 steady_others Again s xs h = (steady_part Again s xs refl h).1
 
-steady_rest : (n : Need) (s : Sort) (xs : List Symbol) → steady (Part n s ∷ xs) ≡ true → steady (rest n s xs) ≡ true
-steady_rest One s xs h = h
-steady_rest May s xs h = (steady_part May s xs refl h).1
-steady_rest Many s xs h = h
-steady_rest Again s xs h = h
-
 -- what does not wait asks for three tokens alone
 unasked : (s : Sort) (a b c d e : TokenKind) → waits s ≡ false → pick s a b c d ≡ pick s a b c e
 unasked ForEachTarget a b c d e h = absurd (true≢false h)

@@ -53,10 +53,7 @@ has_append (x ∷ xs) ys a h =
     let more = has_append xs ys a both.1 in
     (rw both.0 more.0, more.1)
 
--- another kind than one that is there
-pub other_kind : (ks : List TokenKind) (a x : TokenKind) → has ks a ≡ false → has ks x ≡ true → same_kind a x ≡ false
-other_kind ks a x h i = elim (truth (same_kind a x)) [ inl e ↦ clash (has ks a) (subst (λ z. has ks z ≡ true) (sym (same_is a x e)) i) h | inr n ↦ n ]
-
+-- a kind that is not there is another one
 pub other_than : (ks : List TokenKind) (a x : TokenKind) → has ks a ≡ true → has ks x ≡ false → same_kind a x ≡ false
 other_than ks a x h i = elim (truth (same_kind a x)) [ inl e ↦ clash (has ks x) (subst (λ z. has ks z ≡ true) (same_is a x e) h) i | inr n ↦ n ]
 
