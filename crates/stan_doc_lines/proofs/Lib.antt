@@ -1,0 +1,4 @@
+mod RunLemmas
+mod TextLemmas
+mod StartLemmas
+mod SpanLemmas

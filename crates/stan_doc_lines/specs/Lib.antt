@@ -1,0 +1,4 @@
+-- ---- what functions inside promise each other
+pub mod Runs
+pub mod Fronts
+pub mod Spans
