@@ -1,4 +1,4 @@
-mod RunLemmas
+pub mod RunLemmas
 mod TextLemmas
 mod StartLemmas
 mod SpanLemmas

@@ -1,0 +1,6 @@
+mod EndLemmas
+mod NumberLemmas
+mod QuoteLemmas
+mod TableLemmas
+mod TokenLemmas
+mod WordLemmas
