@@ -2,3 +2,4 @@ pub mod RunLemmas
 mod TextLemmas
 mod StartLemmas
 mod SpanLemmas
+mod PlaceLemmas

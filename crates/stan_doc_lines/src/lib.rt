@@ -2,6 +2,7 @@
 #![tactic(auto)]
 
 pub mod bytes;
+pub mod laws;
 mod marks;
 pub mod runs;
 mod spans;

@@ -2,6 +2,8 @@
 
 ghost use Rattle.std.specs.Prelude.{◌≡◌, ◌<◌, length, drop, IfOk};
 ghost use Rattle.stan_model_doc.specs.Comment.{tag_spans};
+ghost use Rattle.std.specs.List.{All};
+ghost use Rattle.stan_doc_lines.specs.Laws.{IsPlaced};
 ghost use Rattle.stan_doc_lines.specs.Spans.{first_start, up_to};
 
 use crate::starts::open_tags;
@@ -27,9 +29,9 @@ fn up_to(end: u32, tag: TagSpan) -> TagSpan
     TagSpan { end, ..tag }
 }
 
-/// The tags of a comment's text, in order, each up to the next one. Only memory can be wanting.
+// The tags of a text.
 #[tactic(auto, using(crate::proofs::SpanLemmas::span_steps))]
-pub fn tag_spans(alloc: Global, text: &[u8]) -> Result<Vec<TagSpan>, OutOfMemory>
+fn closed_tags(alloc: Global, text: &[u8]) -> Result<Vec<TagSpan>, OutOfMemory>
     requires { length text.now < u32.MAX }
     ensures { IfOk result (λ spans. spans.items ≡ tag_spans text.now) }
 {
@@ -39,5 +41,15 @@ pub fn tag_spans(alloc: Global, text: &[u8]) -> Result<Vec<TagSpan>, OutOfMemory
         let end = start_or(&tags, index + 1, text.len() as u32);
         spans.push(up_to(end, tags[index]))?;
     }
+    Ok(spans)
+}
+
+/// The tags of a comment's text, in order, each up to the next one. Only memory can be wanting.
+pub fn tag_spans(alloc: Global, text: &[u8]) -> Result<Vec<TagSpan>, OutOfMemory>
+    requires { length text.now < u32.MAX }
+    ensures value { IfOk result (λ spans. spans.items ≡ tag_spans text.now) }
+    ensures placed { IfOk result (λ spans. All (IsPlaced text.now) spans.items) }
+{
+    let spans = closed_tags(alloc, text)?;
     Ok(spans)
 }
