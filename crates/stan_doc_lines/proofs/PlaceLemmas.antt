@@ -1,53 +1,14 @@
 -- Tags stand in order, each with its word in front of the next one.
-use Rattle.std.proofs.Common.{◌≡◌, ℕ, ◌+◌, ◌-◌, ◌<◌, ◌≤◌, List, [], ◌∷◌, ◌++◌, zero, suc, length, Bool, true, false, cond, refl, sym, ap, subst, ◌∙◌, ◌⊎◌, inl, inr, ⊎_elim, arith, length-append}
+use Rattle.std.proofs.Common.{◌≡◌, ℕ, ◌+◌, ◌<◌, ◌≤◌, List, [], ◌∷◌, ◌++◌, zero, suc, length, Bool, true, false, cond, refl, sym, subst, ◌∙◌, arith, length-append}
 use Rattle.std.specs.Prelude.{◌==◌, ◌&&◌, slice_index, IsTrue}
 use Rattle.std.specs.List.{All, filter}
-use Rattle.std.proofs.lemmas.Bool.{cases_lt, eqb-true, false≢true}
+use Rattle.std.proofs.lemmas.Bool.{eqb-true}
 use Rattle.std.proofs.lemmas.List.{append-nil, length-map}
 use Rattle.std.proofs.lemmas.List.Elements.{filter-append, All-nil, All-cons}
-use Rattle.stan_model_grammar.specs.Runs.{run_end, run_end_within}
 use Rattle.stan_model_doc.specs.declared.token.TagSpan.{TagSpan}
 use Rattle.stan_model_doc.specs.Comment.{places, begins_tag, tag_places, tag_word_at, tag_span, spans_of, tag_spans, text_byte, text_end}
 use Rattle.stan_doc_lines.specs.Laws.{IsPlaced, PlacesStay}
-use Rattle.stan_doc_lines.proofs.RunLemmas.{run_end_past, run_end_stops, run_end_goes_on}
-
--- ---- runs
-
-module _ (source : List ℕ) (test : ℕ → Bool) where
-  rises_within : (left from : ℕ) → from ≤ run_end_within test left from
-  unfolding run_end_within
-  rises_within zero from = omega arith
-  rises_within (suc left) from = elim (test from) as (λ b. from ≤ cond b (run_end_within test left (from + 1)) from) [ true ↦ omega (arith, rises_within left (from + 1)) | false ↦ omega arith ]
-
-  below_within : (left from : ℕ) → run_end_within test left from ≤ from + left
-  unfolding run_end_within
-  below_within zero from = omega arith
-  below_within (suc left) from = elim (test from) as (λ b. cond b (run_end_within test left (from + 1)) from ≤ from + suc left) [ true ↦ omega (arith, below_within left (from + 1)) | false ↦ omega arith ]
-
-  run_end_rises : (at : ℕ) → at ≤ run_end source test at
-  unfolding run_end
-  run_end_rises at = rises_within (length source - at) at
-
-  run_end_below : (at : ℕ) → at ≤ length source → run_end source test at ≤ length source
-  unfolding run_end
-  run_end_below at h = omega (arith, below_within (length source - at) at)
-
-  run_end_passes : (left at : ℕ) → at + left ≡ length source → (k : ℕ) → at ≤ k → k < run_end source test at → test k ≡ true
-  run_end_passes zero at e k low high = absurd (omega (arith, run_end_past source test at (omega arith)))
-  run_end_passes (suc left) at e k low high = ⊎_elim
-      (λ yes. ⊎_elim (λ (less : at < k). run_end_passes left (at + 1) (omega arith) k (omega arith) (omega (arith, run_end_goes_on source test at (omega arith) yes)))
-      (λ (more : k ≤ at). let same : k ≡ at = omega arith in ap test same ∙ yes) (cases_lt at k))
-      (λ no. absurd (omega (arith, run_end_stops source test at no))) (either (test at))
-    where
-      either : (b : Bool) → (b ≡ true) ⊎ (b ≡ false)
-      either true = inl refl
-      either false = inr refl
-
-  -- A run ends at a place that fails, or before it.
-  run_end_before : (at k : ℕ) → at ≤ k → k < length source → test k ≡ false → run_end source test at ≤ k
-  run_end_before at k le lt fails = ⊎_elim
-      (λ (more : k < run_end source test at). absurd (false≢true (sym fails ∙ run_end_passes (length source - at) at (omega arith) k le more)))
-      (λ le. le) (cases_lt k (run_end source test at))
+use Rattle.stan_doc_lines.proofs.RunLemmas.{run_end_rises, run_end_below, run_end_before}
 
 -- ---- places
 

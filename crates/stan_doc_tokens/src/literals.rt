@@ -1,11 +1,12 @@
 //! Numbers and quoted texts.
 
-ghost use Rattle.std.specs.Prelude.{◌≡◌, ◌≤◌, ◌<◌, ◌+◌, ◌^◌, length, slice_index, IsTrue, ◌==◌, if◌then◌else◌};
+ghost use Rattle.std.specs.Prelude.{◌≡◌, ◌≤◌, ◌<◌, ◌+◌, ◌^◌, length, slice_index, IsTrue, ◌==◌, ◌⊎◌, if◌then◌else◌};
 ghost use Rattle.stan_model_grammar.specs.Numbers.{begins_number};
-ghost use Rattle.stan_model_doc.specs.Tokens.{number_kind, begins_doc_number, doc_number, text_kind, doc_quoted};
+ghost use Rattle.stan_model_doc.specs.Tokens.{number_kind, begins_doc_number, doc_number, doc_quoted};
+ghost use Rattle.stan_doc_tokens.specs.Quotes.{AreSeen};
 
 use crate::numbers::{begins_number, number};
-use crate::quotes::{double_quoted, single_quoted};
+use crate::quotes::{Seen, double_text, single_text};
 use stan_doc_lines::bytes::byte_at;
 use stan_model_doc::token::DocKind;
 use stan_model_grammar::token::TokenKind;
@@ -53,28 +54,24 @@ pub fn doc_number(text: &[u8], at: usize) -> (DocKind, usize)
     (number_kind(kind), to)
 }
 
-fn text_kind(kind: TokenKind) -> DocKind
-    ensures { result ≡ text_kind kind }
-{
-    match kind {
-        TokenKind::SingleQuoted => DocKind::SingleQuoted,
-        TokenKind::DoubleQuoted => DocKind::DoubleQuoted,
-        _ => DocKind::Other,
-    }
-}
-
 /// The quoted text that a quote at a place begins, by its kind and its end, or the quote alone where it begins none.
-#[tactic(auto, unfolding(stan_model_doc::specs::Tokens::doc_quoted))]
-pub fn doc_quoted(text: &[u8], at: usize) -> (DocKind, usize)
-    requires { at < length text.now }
+#[tactic(auto, using(crate::proofs::SeenLemmas::seen_steps))]
+pub fn doc_quoted(text: &[u8], at: usize, seen: &mut Seen) -> (DocKind, usize)
+    requires within { at < length text.now }
+    requires quote { (slice_index text.now at ≡ 39) ⊎ (slice_index text.now at ≡ 34) }
+    requires seen { AreSeen text.now at seen.old }
     ensures value { result ≡ doc_quoted text.now at }
     ensures rises { at < result.1 }
     ensures within { result.1 ≤ length text.now }
+    ensures seen { AreSeen text.now (at + 1) seen.new }
 {
-    let (kind, to) = if text[at] == b'\'' {
-        single_quoted(text, at)
+    if text[at] == b'\'' {
+        let read = single_text(text, at, seen.single);
+        seen.single = read.stop;
+        (read.kind, read.end)
     } else {
-        double_quoted(text, at)
-    };
-    (text_kind(kind), to)
+        let read = double_text(text, at, seen.double);
+        seen.double = read.stop;
+        (read.kind, read.end)
+    }
 }

@@ -1,14 +1,15 @@
 //! Texts in quotes, and what ends them.
 
-ghost use Rattle.std.specs.Prelude.{◌≡◌, ◌+◌, ◌≤◌, ◌<◌, ◌^◌, length, max, slice_index, Bool, IsTrue};
+ghost use Rattle.std.specs.Prelude.{◌≡◌, ◌+◌, ◌≤◌, ◌<◌, ◌^◌, length, max, slice_index};
 ghost use Rattle.stan_model_grammar.specs.Runs.{run_end};
-ghost use Rattle.stan_model_grammar.specs.Texts.{is_code_point, begins_wrong_escape, begins_insertion, single_quoted, double_quoted};
-ghost use Rattle.stan_doc_tokens.specs.Quotes.{fixed, fixed_from};
+ghost use Rattle.stan_model_grammar.specs.Texts.{is_code_point, begins_wrong_escape, begins_insertion};
+ghost use Rattle.stan_model_doc.specs.Tokens.{doc_quoted};
+ghost use Rattle.stan_doc_tokens.specs.Quotes.{fixed, fixed_from, BeginsNone};
 
 use crate::numbers::value;
 use stan_doc_lines::bytes::{begins_identifier, byte_at};
 use stan_doc_lines::runs::{Run, run_end};
-use stan_model_grammar::token::TokenKind;
+use stan_model_doc::token::DocKind;
 
 // Whether hexadecimal digits of a number up to 10FFFF stand there, with a `}` behind them.
 #[tactic(auto, unfolding(stan_model_grammar::specs::Texts::is_code_point))]
@@ -87,36 +88,76 @@ fn fixed_end(source: &[u8], quote: Quote, from: usize) -> usize
     to
 }
 
-/// The text in `'` at a place, by its kind and its end. Without an end it is `Bad`.
-#[tactic(auto, unfolding(stan_model_grammar::specs::Texts::single_quoted))]
-pub fn single_quoted(source: &[u8], at: usize) -> (TokenKind, usize)
-    requires { at < length source.now }
-    ensures value { result ≡ single_quoted source.now at }
-    ensures rises { at < result.1 }
-    ensures within { result.1 ≤ length source.now }
+/// The places before which no quoted text begins with `'` and none with `"`, as far as the text was looked through: a quote without its
+/// end is followed by others without theirs, and so no byte is looked at again for each of them.
+#[derive(Clone, Copy)]
+pub struct Seen {
+    pub single: usize,
+    pub double: usize,
+}
+
+/// A token that begins with a quote, and the place before which no other text begins with that quote.
+#[derive(Clone, Copy)]
+pub struct Quoted {
+    pub kind: DocKind,
+    pub end: usize,
+    pub stop: usize,
+}
+
+/// The text that the `'` at a place begins, or the `'` alone where it begins none.
+#[tactic(auto, using(crate::proofs::SeenLemmas::seen_steps), unfolding(stan_model_doc::specs::Tokens::doc_quoted, stan_model_grammar::specs::Texts::single_quoted))]
+pub fn single_text(text: &[u8], at: usize, stop: usize) -> Quoted
+    requires within { at < length text.now }
+    requires quote { slice_index text.now at ≡ 39 }
+    requires seen { BeginsNone text.now 39 at stop }
+    ensures value { (result.kind, result.end) ≡ doc_quoted text.now at }
+    ensures rises { at < result.end }
+    ensures within { result.end ≤ length text.now }
+    ensures seen { BeginsNone text.now 39 (at + 1) result.stop }
 {
-    let to = fixed_end(source, Quote::Single, at + 1);
-    if to < source.len() {
-        (TokenKind::SingleQuoted, to + 1)
+    let kind = DocKind::Other;
+    let end = at + 1;
+    if at < stop {
+        return Quoted { kind, end, stop };
+    }
+    let to = fixed_end(text, Quote::Single, at + 1);
+    if to < text.len() {
+        Quoted {
+            kind: DocKind::SingleQuoted,
+            end: to + 1,
+            stop,
+        }
     } else {
-        (TokenKind::Bad, at + 1)
+        let stop = text.len();
+        Quoted { kind, end, stop }
     }
 }
 
-/// The text in `"` at a place, or the quote of one with insertions, by its kind and its end. Without an end it is `Bad`.
-#[tactic(auto, unfolding(stan_model_grammar::specs::Texts::double_quoted))]
-pub fn double_quoted(source: &[u8], at: usize) -> (TokenKind, usize)
-    requires { at < length source.now }
-    ensures value { result ≡ double_quoted source.now at }
-    ensures rises { at < result.1 }
-    ensures within { result.1 ≤ length source.now }
+/// The text that the `"` at a place begins, or the `"` alone where it begins none.
+#[tactic(auto, using(crate::proofs::SeenLemmas::seen_steps), unfolding(stan_model_doc::specs::Tokens::doc_quoted, stan_model_grammar::specs::Texts::double_quoted))]
+pub fn double_text(text: &[u8], at: usize, stop: usize) -> Quoted
+    requires within { at < length text.now }
+    requires quote { slice_index text.now at ≡ 34 }
+    requires seen { BeginsNone text.now 34 at stop }
+    ensures value { (result.kind, result.end) ≡ doc_quoted text.now at }
+    ensures rises { at < result.end }
+    ensures within { result.end ≤ length text.now }
+    ensures seen { BeginsNone text.now 34 (at + 1) result.stop }
 {
-    let to = fixed_end(source, Quote::Double, at + 1);
-    if byte_at(source, to) == b'"' {
-        (TokenKind::DoubleQuoted, to + 1)
-    } else if begins_insertion(source, to) {
-        (TokenKind::TextStart, at + 1)
+    let kind = DocKind::Other;
+    let end = at + 1;
+    if at < stop {
+        return Quoted { kind, end, stop };
+    }
+    let to = fixed_end(text, Quote::Double, at + 1);
+    if byte_at(text, to) == b'"' {
+        Quoted {
+            kind: DocKind::DoubleQuoted,
+            end: to + 1,
+            stop,
+        }
     } else {
-        (TokenKind::Bad, at + 1)
+        let stop = to;
+        Quoted { kind, end, stop }
     }
 }
