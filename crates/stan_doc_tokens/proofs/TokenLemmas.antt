@@ -6,9 +6,6 @@ use Rattle.stan_model_doc.specs.Tokens.{doc_token}
 use Rattle.stan_doc_tokens.specs.Reading.{AddsTokens, AddsTokensUpTo}
 
 module _ (text : List ℕ) (from : ℕ) (old : List DocToken) where
-  pub up_to_first : AddsTokensUpTo text from from old old
-  up_to_first tail are = (tail, refl, are)
-
   pub up_to_end : (at : ℕ) (new : List DocToken) → AddsTokensUpTo text from at old new → length text ≤ run_end text (blank_at text) at → AddsTokens text from old new
   up_to_end at new read le = subst (λ ts. AddsTokens text from old ts) (append-nil new) (read [] le)
 
