@@ -5,7 +5,7 @@ use Rattle.stan_model_doc.specs.declared.token.DocToken.{DocToken}
 use Rattle.stan_model_doc.specs.Symbols.{Sort, Need, One, May, Many, Stop, Symbol, Mark, Word, Any, Part}
 use Rattle.stan_model_doc.specs.Rules.{Rule, symbols}
 use Rattle.stan_model_doc.specs.Trees.{Forest, mark, word, any, none, some}
-use Rattle.stan_model_doc.specs.Choices.{size, items_size, left, counted, choices_of, choices, More, Better}
+use Rattle.stan_model_doc.specs.Choices.{size, items_size, left, choices_of, choices, More, Better}
 use Rattle.stan_doc_descent.specs.Parse.{Piece, standing}
 use Rattle.stan_doc_descent.specs.Descent.{BetterPiece}
 
@@ -36,11 +36,6 @@ none_better n s xs f x (inl e) = inl (ap none e)
 none_better One s xs f x (inr m) = inr m
 none_better May s xs f x (inr m) = inr (inr (refl, m))
 none_better Many s xs f x (inr m) = inr (inr (refl, m))
-
-more_counted : (n : Need) (a b c d : ℕ) (xs ys : List ℕ) → a ≡ b → c ≡ d → More xs ys → More (counted n false a c xs) (counted n false b d ys)
-more_counted One a b c d xs ys e g m = m
-more_counted May a b c d xs ys e g m = inr (e, m)
-more_counted Many a b c d xs ys e g m = inr (g, m)
 
 -- the choices behind the part
 abbrev Behind : List Symbol → Bool → Forest → List ℕ

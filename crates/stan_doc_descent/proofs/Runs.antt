@@ -1,12 +1,10 @@
 -- Runs of symbols: with what they begin, and where they end.
-use Rattle.std.proofs.Common.{◌≡◌, ℕ, ◌+◌, ◌≤◌, ◌<◌, true, List, [], ◌∷◌, length, Option, Some, None, refl, sym, ap, subst, ◌∙◌, ◌⊎◌, inl, inr, arith}
+use Rattle.std.proofs.Common.{◌≡◌, ℕ, ◌+◌, ◌≤◌, ◌<◌, true, List, [], ◌∷◌, Option, Some, None, refl, sym, subst, ◌⊎◌, inl, inr, arith}
 use Rattle.std.specs.Prelude.{not, slice_get, if◌then◌else◌}
-use Rattle.std.proofs.lemmas.Bool.{cases_lt}
-use Rattle.std.proofs.lemmas.Option.{slice_get_past}
 use Rattle.stan_model_doc.specs.declared.token.DocKind.{DocKind}
 use Rattle.stan_model_doc.specs.declared.token.DocKind.TheVariants as k
 use Rattle.stan_model_doc.specs.declared.token.DocToken.{DocToken}
-use Rattle.stan_model_doc.specs.Tokens.{kind_at, kind_of, has, Is}
+use Rattle.stan_model_doc.specs.Tokens.{kind_at, kind_of, has}
 use Rattle.stan_model_doc.specs.Symbols.{Sort, Need, Symbol, Mark, Word, Any, Part, lacks, rest}
 use Rattle.stan_model_doc.specs.Rules.{Rule, symbols, sort_of}
 use Rattle.stan_model_doc.specs.Trees.{Forest, nil, mark, word, any, none, some}
@@ -16,16 +14,6 @@ use Rattle.stan_doc_descent.specs.Parse.{after, after_of}
 use Rattle.stan_doc_descent.specs.Tables.{begins, firsts, empty, leads, is_end}
 use Rattle.stan_doc_descent.proofs.Words.{same_at, stands_kind, subset_has, clash, implied}
 use Rattle.stan_doc_descent.proofs.Checks.{rule_takes, rule_begins, rule_leads, has_left, has_right}
-
-pub nothing_past : (ts : List DocToken) (at : ℕ) → length ts ≤ at → kind_at ts at ≡ k.End
-unfolding kind_at
-nothing_past ts at le = ap kind_of (slice_get_past ts at le)
-
-pub kind_within : (ts : List DocToken) (at : ℕ) (kind : DocKind) → not (is_end kind) ≡ true → Is ts at kind → at < length ts
-kind_within ts at kind n is = elim (cases_lt at (length ts)) [
-  | inl lt ↦ lt
-  | inr past ↦ absurd (let e : k.End ≡ kind = sym (nothing_past ts at past) ∙ is in let w = subst (λ z. not (is_end z) ≡ true) (sym e) n in cc)
-]
 
 after_of_at : (o : Option DocToken) (kind : DocKind) (at : ℕ) → (k.End ≡ kind → ⊥) → kind_of o ≡ kind → after_of o kind at ≡ Some (at + 1)
 after_of_at None kind at apart is = absurd (apart is)

@@ -10,12 +10,6 @@ use Rattle.stan_model_doc.specs.Grammar.{closer, is_closer, stops, matches}
 use Rattle.stan_doc_descent.specs.Parse.{any_size, any_at}
 use Rattle.stan_doc_descent.proofs.Words.{and_split, some_is}
 
-later_token : (t : DocToken) (ts : List DocToken) (m : ℕ) → slice_get (t ∷ ts) (suc m) ≡ slice_get ts m
-later_token t ts m = refl
-
-first_token : (t : DocToken) (ts : List DocToken) → slice_get (t ∷ ts) 0 ≡ Some t
-first_token t ts = refl
-
 no_token : (m : ℕ) → (let ts : List DocToken = [] in slice_get ts m) ≡ None
 no_token zero = refl
 no_token (suc m) = refl

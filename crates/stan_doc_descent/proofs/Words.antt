@@ -12,17 +12,9 @@ pub and_split : (a b : Bool) → a && b ≡ true → (a ≡ true) × (b ≡ true
 and_split true b h = (refl, h)
 and_split false b h = absurd cc
 
-pub and_both : (a b : Bool) → a ≡ true → b ≡ true → a && b ≡ true
-and_both true b h i = i
-and_both false b h i = absurd cc
-
 pub or_split : (a b : Bool) → a || b ≡ true → (a ≡ true) ⊎ (b ≡ true)
 or_split true b h = inl refl
 or_split false b h = inr h
-
-pub or_none : (a b : Bool) → a || b ≡ false → (a ≡ false) × (b ≡ false)
-or_none true b h = absurd cc
-or_none false b h = (refl, h)
 
 pub or_right : (a b : Bool) → b ≡ true → a || b ≡ true
 or_right true b h = refl
@@ -31,10 +23,6 @@ or_right false b h = h
 pub implied : (a b : Bool) → implies a b ≡ true → a ≡ true → b ≡ true
 implied true b h i = h
 implied false b h i = absurd cc
-
-pub implying : (a b : Bool) → (a ≡ true → b ≡ true) → implies a b ≡ true
-implying true b f = f refl
-implying false b f = refl
 
 pub truth : (b : Bool) → (b ≡ true) ⊎ (b ≡ false)
 truth true = inl refl
