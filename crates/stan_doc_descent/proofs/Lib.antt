@@ -1,0 +1,6 @@
+mod Words
+mod Checks
+mod Runs
+mod Texts
+mod Preferred
+mod Reading

@@ -1,0 +1,45 @@
+-- What the descent reads, where what it reads of parts is right.
+use Rattle.std.specs.Prelude.{◌≡◌, ◌⊎◌, ℕ, ◌≤◌, ◌<◌, true, false, List, ◌∷◌, length, Option, Some}
+use Rattle.stan_model_doc.specs.declared.token.DocToken.{DocToken}
+use Rattle.stan_model_doc.specs.Tokens.{kind_at, has}
+use Rattle.stan_model_doc.specs.Symbols.{Sort, Symbol}
+use Rattle.stan_model_doc.specs.Rules.{Rule, symbols, sort_of}
+use Rattle.stan_model_doc.specs.Trees.{Forest}
+use Rattle.stan_model_doc.specs.Grammar.{Runs}
+use Rattle.stan_model_doc.specs.Choices.{Better, left, choices, More}
+use Rattle.stan_doc_descent.specs.Parse.{Read, Piece, one, run, height}
+use Rattle.stan_doc_descent.specs.Tables.{goes, ends, fine, is_special}
+
+-- What is read of a production is a tree of it that nests less than so deep.
+abbrev pub IsSound : List DocToken → (Rule → ℕ → Read Forest) → ℕ → Type 0
+IsSound ts below n = (r : Rule) (at : ℕ) (x : Forest × ℕ) → below r at ≡ Some x → Runs ts (symbols r) x.0 at x.1 × (height x.0 < n)
+
+-- What is read of symbols is as long as a tree of them and the same or better, or it is longer, and the token behind that tree is one with which they go on.
+abbrev pub Reads : List DocToken → List Symbol → Forest → ℕ → Read Forest → Type 0
+Reads ts xs f to o = (x : Forest × ℕ) × (o ≡ Some x) × ((Better xs x.0 f × (x.1 ≡ to)) ⊎ ((to < x.1) × (has (ends xs) (kind_at ts to) ≡ true)))
+
+-- a part that is the same, or counts before
+abbrev pub BetterPiece : Piece → Rule → Forest → Type 0
+BetterPiece p r ps = (p ≡ (r, ps)) ⊎ More (left p.0 ∷ choices (symbols p.0) p.1) (left r ∷ choices (symbols r) ps)
+
+-- the same of a part
+abbrev pub ReadsPiece : List DocToken → Sort → Rule → Forest → ℕ → Option (Piece × ℕ) → Type 0
+ReadsPiece ts s r ps b o = (x : Piece × ℕ) × (o ≡ Some x) × ((BetterPiece x.0 r ps × (x.1 ≡ b)) ⊎ ((b < x.1) × (has (goes s) (kind_at ts b) ≡ true)))
+
+-- Each part that nests less than so deep is read, or a longer one.
+abbrev pub ReadsParts : List DocToken → (Rule → ℕ → Read Forest) → ℕ → Type 0
+ReadsParts ts below n = (s : Sort) (r : Rule) (ps : Forest) (at b : ℕ) → sort_of r ≡ s → height ps < n → b ≤ length ts → Runs ts (symbols r) ps at b → ReadsPiece ts s r ps b (one ts below s at)
+
+-- What the descent reads is a tree of the symbols.
+abbrev pub DescentIsSound : Type 0
+DescentIsSound = (ts : List DocToken) (below : Rule → ℕ → Read Forest) (n : ℕ) → IsSound ts below n
+    → (xs : List Symbol) (at : ℕ) (x : Forest × ℕ) → run ts below xs at ≡ Some x → Runs ts xs x.0 at x.1 × (height x.0 ≤ n)
+
+-- Of symbols that pass the test the descent reads each tree, or a longer one.
+abbrev pub DescentReadsTheLongest : Type 0
+DescentReadsTheLongest = (ts : List DocToken) (below : Rule → ℕ → Read Forest) (n : ℕ) → IsSound ts below n → ReadsParts ts below n
+    → (xs : List Symbol) (f : Forest) (at to : ℕ) → fine xs ≡ true → height f ≤ n → to ≤ length ts → Runs ts xs f at to → Reads ts xs f to (run ts below xs at)
+
+-- The productions that pass the test.
+abbrev pub PlainProductionsAreFine : Type 0
+PlainProductionsAreFine = (r : Rule) → is_special r ≡ false → fine (symbols r) ≡ true

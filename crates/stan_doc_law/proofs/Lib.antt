@@ -1,0 +1,4 @@
+pub mod EndLemmas
+pub mod TokenLemmas
+pub mod FrontLemmas
+pub mod ReadingLemmas

@@ -1,0 +1,5 @@
+pub mod RunLemmas
+mod TextLemmas
+mod StartLemmas
+mod SpanLemmas
+mod PlaceLemmas

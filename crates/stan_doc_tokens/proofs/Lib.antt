@@ -1,0 +1,7 @@
+mod EndLemmas
+mod NumberLemmas
+mod QuoteLemmas
+mod SeenLemmas
+mod TableLemmas
+mod TokenLemmas
+mod WordLemmas

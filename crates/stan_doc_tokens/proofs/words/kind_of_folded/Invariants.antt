@@ -1,0 +1,7 @@
+use Rattle.std.proofs.Common.{◌≡◌, map, drop}
+use Rattle.stan_doc_tokens.specs.Tables.{row_of, kind_of_folded}
+use Rattle.stan_doc_tokens.proofs.words.kind_of_folded.Given as goal
+
+-- the rows that are left give the word its kind
+abbrev pub invariant-loop-row : goal.invariant-loop-row
+invariant-loop-row l = kind_of_folded (map row_of (drop l.row-index l.rows)) l.other l.word ≡ kind_of_folded (map row_of l.rows) l.other l.word
