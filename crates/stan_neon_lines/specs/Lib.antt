@@ -1,0 +1,5 @@
+pub mod Entries
+pub mod Feed
+pub mod Lines
+pub mod Pair
+pub mod Content
