@@ -81,9 +81,9 @@ is_claimed dashes line = is_of Pairs line.entry && list_any (λ dash. bytes_eq l
 abbrev pub is_in_block : List (List ℕ) → Kind → List ℕ → Line → Bool
 is_in_block dashes kind indentation line = bytes_eq line.indentation indentation && (is_of kind line.entry && not (is_claimed dashes line))
 
--- the dashes that are open under a line: with its own, where it begins a map
+-- the dashes that are open under a line, outermost first: with its own, where it begins a map
 abbrev pub dashes_under : List (List ℕ) → Line → List (List ℕ)
-dashes_under dashes line = if begins_map line.entry then line.indentation ∷ dashes else dashes
+dashes_under dashes line = if begins_map line.entry then dashes ++ line.indentation ∷ [] else dashes
 
 abbrev pub first_kind : Outline → Kind
 first_kind End = Items

@@ -1,5 +1,5 @@
 -- The lines of a text, and those that have content.
-use Rattle.std.specs.Prelude.{zero, suc, ℕ, ◌==◌, ◌||◌, ◌+◌, ◌-◌, not, if◌then◌else◌, List, [], ◌∷◌, Option, Some, None, length, take, map, slice_index}
+use Rattle.std.specs.Prelude.{suc, ℕ, ◌==◌, ◌||◌, ◌-◌, not, if◌then◌else◌, List, [], ◌∷◌, Option, Some, None, length, take, map, slice_index}
 use Rattle.std.specs.List.{prefix_len}
 use Rattle.std.specs.Str.{is_utf8}
 use Rattle.stan_model_neon.specs.declared.node.Entry.{Entry}

@@ -1,6 +1,6 @@
 //! What stands in a line behind its indentation.
 
-ghost use Rattle.std.specs.Prelude.{◌≡◌, IfOk, option_map};
+ghost use Rattle.std.specs.Prelude.{◌≡◌, ◌≤◌, IsTrue, length, IfOk, option_map};
 ghost use Rattle.stan_neon_lines.specs.Entries.{behind_key, pair, item, begins_item, entry};
 ghost use Rattle.stan_neon_lines.specs.Pair.{pair_of, behind_of};
 
@@ -87,7 +87,8 @@ fn item(alloc: Global, bytes: &[u8]) -> Result<Entry, OutOfMemory>
 // Whether a dash stands there, and not a key that begins with `-`.
 #[tactic(auto, unfolding(crate::specs::Entries::begins_item))]
 fn begins_item(bytes: &[u8]) -> bool
-    ensures { result ≡ begins_item bytes.now }
+    ensures value { result ≡ begins_item bytes.now }
+    ensures within { IsTrue result → 1 ≤ length bytes.now }
 {
     byte_at(bytes, 0) == b'-' && (ends(&bytes[1..]) || is_blank(byte_at(bytes, 1)))
 }

@@ -4,4 +4,4 @@
 mod entries;
 mod lines;
 
-pub use lines::Line;
+pub use lines::{Feed, Line};

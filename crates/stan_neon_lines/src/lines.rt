@@ -3,8 +3,8 @@
 ghost use Rattle.std.specs.Prelude.{◌≡◌, ◌≢◌, ◌≤◌, ◌<◌, ◌+◌, ◌-◌, ◌^◌, ◌==◌, ◌∷◌, [], not, length, take, drop, IfOk, OnOk, IfSome, MatchOption, option_map};
 ghost use Rattle.std.specs.List.{prefix_len};
 ghost use Rattle.std.specs.Str.{is_utf8};
-ghost use Rattle.stan_neon_lines.specs.Lines.{without_return, content};
-ghost use Rattle.stan_neon_lines.specs.Feed.{line_of, lines_from, contents_from};
+ghost use Rattle.stan_neon_lines.specs.Lines.{without_return, content, contents, lines};
+ghost use Rattle.stan_neon_lines.specs.Feed.{line_of};
 ghost use Rattle.stan_neon_lines.specs.Content.{content_of};
 
 use crate::entries::entry;
@@ -86,4 +86,72 @@ fn read_content<'a>(alloc: Global, line: &'a [u8]) -> Result<Option<Content<'a>>
         indentation: &line[..width],
         entry,
     }))
+}
+
+/// The lines of a text that have content, from the front.
+#[derive(Drop)]
+pub struct Feed<'a> {
+    text: &'a [u8],
+    // Where the next line begins; past the end there is none.
+    at: usize,
+    // The number of the next line.
+    number: u32,
+    ghost within: { at ≤ length text.now + 1 },
+    ghost numbered: { number ≤ at + 1 },
+    ghost small: { length text.now ≤ 67108864 },
+}
+
+impl<'a> Feed<'a> {
+    ghost use Rattle.stan_neon_lines.specs.Rest.{lines_left, contents_left};
+
+    /// All lines of a text of at most 67,108,864 bytes.
+    pub fn new(text: &'a [u8]) -> Feed<'a>
+        requires { length text.now ≤ 67108864 }
+        ensures { contents_left result ≡ contents 1 (lines text.now) }
+    {
+        Feed {
+            text,
+            at: 0,
+            number: 1,
+        }
+    }
+
+    // The next line, without its end.
+    fn next_line(&mut self) -> Option<&'a [u8]>
+        ensures value { MatchOption result (lines_left self.old ≡ []) (λ line. lines_left self.old ≡ line.now ∷ lines_left self.new) }
+        ensures number { IfSome result (λ _. self.new.number ≡ self.old.number + 1) }
+        ensures goes_on { IfSome result (λ _. self.old.at < self.new.at) }
+        ensures text { self.new.text.now ≡ self.old.text.now }
+    {
+        if self.at > self.text.len() {
+            return None;
+        }
+        let rest = &self.text[self.at..];
+        let len = line_len(rest);
+        self.at += len + 1;
+        self.number += 1;
+        Some(without_return(&rest[..len]))
+    }
+
+    /// The next line with content.
+    pub fn next(&mut self, alloc: Global) -> Result<Option<Line<'a>>, OutOfMemory>
+        ensures { IfOk result (λ line. MatchOption line (contents_left self.old ≡ []) (λ l. contents_left self.old ≡ line_of l ∷ contents_left self.new)) }
+    {
+        'lines: loop {
+            let number = self.number;
+            let Some(line) = self.next_line() else {
+                return Ok(None);
+            };
+            match read_content(alloc, line)? {
+                Some(content) => {
+                    return Ok(Some(Line {
+                        number,
+                        indentation: content.indentation,
+                        entry: content.entry,
+                    }));
+                }
+                None => {}
+            }
+        }
+    }
 }

@@ -1,4 +1,4 @@
-use Rattle.std.proofs.Common.{◌≡◌, sym}
+use Rattle.std.proofs.Common.{sym}
 use Rattle.std.proofs.lemmas.Str.{is_utf8-from_IsUtf8}
 use Rattle.stan_neon_scalars.proofs.Utf8Lemmas.{is_utf8-not}
 use Rattle.stan_neon_lines.proofs.lines.is_utf8.Goals as goal
