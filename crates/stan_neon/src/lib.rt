@@ -1,0 +1,4 @@
+//! NEON: reads the tree of a text.
+#![tactic(auto)]
+
+mod reader;
