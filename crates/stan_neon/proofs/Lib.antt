@@ -1,1 +1,3 @@
 pub mod IndentationLemmas
+pub mod ReadingLemmas
+pub mod BlockLemmas

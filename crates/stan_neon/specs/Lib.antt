@@ -1,2 +1,5 @@
 pub mod Reading
 pub mod Reader
+pub mod Blocks
+pub mod Texts
+pub mod Stops

@@ -48,3 +48,8 @@ next_opens left above (line ∷ _) = if nat_le 1 left && is_deeper above line.in
 abbrev pub next_number : List Line → Option ℕ
 next_number [] = None
 next_number (line ∷ _) = Some line.number
+
+-- where the next line stands
+abbrev pub first_of : List Line → Option (Kind × List ℕ)
+first_of [] = None
+first_of (line ∷ _) = Some (kind_of line.entry, line.indentation)

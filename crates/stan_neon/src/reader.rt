@@ -6,7 +6,7 @@ ghost use Rattle.std.specs.Str.{bytes_eq};
 ghost use Rattle.stan_model_neon.specs.Outlines.{Line as ModelLine, is_of, kind_of, is_deeper, behind_dash, is_claimed, is_in_block};
 ghost use Rattle.stan_neon_lines.specs.Lines.{contents, lines};
 ghost use Rattle.stan_neon_lines.specs.Feed.{line_of};
-ghost use Rattle.stan_neon.specs.Reader.{ahead, dashes_of, indentation_of, kind_is, opened_of, next_is_in, next_opens, next_number};
+ghost use Rattle.stan_neon.specs.Reader.{ahead, dashes_of, indentation_of, kind_is, opened_of, next_is_in, next_opens, next_number, first_of};
 
 use stan_base::OutOfMemory;
 use stan_model_neon::node::Entry;
@@ -40,6 +40,7 @@ pub(crate) struct Reader<'a> {
 }
 
 /// What a deeper block begins with.
+#[derive(Drop)]
 pub(crate) struct Opened<'a> {
     pub kind: Kind,
     pub indentation: &'a [u8],
@@ -188,6 +189,19 @@ impl<'a> Reader<'a> {
                     indentation: line.indentation,
                 })
             }
+            None => None,
+        }
+    }
+
+    /// Where the next line stands. None at the end.
+    pub(crate) fn first(&self) -> Option<Opened<'a>>
+        ensures { option_map opened_of result ≡ first_of (ahead self.now) }
+    {
+        match &self.next {
+            Some(line) => Some(Opened {
+                kind: kind_of(&line.entry),
+                indentation: line.indentation,
+            }),
             None => None,
         }
     }
