@@ -1,15 +1,15 @@
 -- What stands under a line, as the reader gives it and as the outline says it.
-use Rattle.std.proofs.Common.{◌≡◌, ℕ, ◌-◌, ◌<◌, ◌≤◌, zero, suc, List, [], ◌∷◌, ◌++◌, Bool, true, false, length, refl, sym, ap, ◌∙◌, append_assoc, arith}
+use Rattle.std.proofs.Common.{◌≡◌, ℕ, ◌-◌, ◌<◌, ◌≤◌, List, [], ◌∷◌, ◌++◌, Bool, true, false, length, refl, sym, ap, ◌∙◌, append_assoc, arith}
 use Rattle.std.specs.Prelude.{Option, Some, None, nat_le, ◌&&◌, not, if◌then◌else◌, is_none, unwrap_or}
 use Rattle.stan_model_neon.specs.declared.node.Node.{Node}
 use Rattle.stan_model_neon.specs.declared.node.Entry.{Entry}
 use Rattle.stan_model_neon.specs.declared.node.Entry.TheVariants as entries
-use Rattle.stan_model_neon.specs.Nodes.{Null, Listed, Mapped}
-use Rattle.stan_model_neon.specs.Outlines.{Line, Outline, End, Stand, Kind, Items, Pairs, kind_of, is_of, is_alone, begins_map, is_deeper, behind_dash, is_in_block, dashes_under, is_claimed, held, node_of, items_of, pairs_of, item_of, pair_of}
+use Rattle.stan_model_neon.specs.Nodes.{Listed, Mapped}
+use Rattle.stan_model_neon.specs.Outlines.{Line, End, Kind, Items, Pairs, kind_of, is_of, is_alone, is_deeper, behind_dash, is_in_block, dashes_under, is_claimed, node_of, items_of, pairs_of, item_of, pair_of}
 use Rattle.std.specs.Str.{bytes_eq}
-use Rattle.stan_neon.specs.Reader.{next_opens, next_is_in}
-use Rattle.stan_neon.specs.Reading.{Read, opens, opened, under, further, stood, read_lines}
-use Rattle.stan_neon.specs.Blocks.{next_kind, block_of, block_under, value_under, map_under, item_under, pair_under}
+use Rattle.stan_neon.specs.Reader.{next_is_in}
+use Rattle.stan_neon.specs.Reading.{Read, opened, under, further, read_lines}
+use Rattle.stan_neon.specs.Blocks.{next_kind, block_of, block_under, value_under, item_under, pair_under}
 use Rattle.stan_neon.proofs.ReadingLemmas.{opened-shrinks, further-shrinks, read_lines-shrinks, read_lines-step, read_lines-stop, read_lines-end}
 
 module _ (left : ℕ) (dashes : List (List ℕ)) (number : ℕ) (indentation : List ℕ) where
@@ -48,19 +48,21 @@ module _ (left : ℕ) (dashes : List (List ℕ)) (line : Line) (lines : List Lin
 
 item-is : (left : ℕ) (dashes : List (List ℕ)) (number : ℕ) (indentation : List ℕ) (entry : Entry) (lines : List Line) → is_of Items entry ≡ true
     → item_under left dashes (record { number = number; indentation = indentation; entry = entry }) lines
-      ≡ (item_of entry (node_of (below left dashes (record { number = number; indentation = indentation; entry = entry }) lines).0) (pairs_of (more left dashes (record { number = number; indentation = indentation; entry = entry }) lines).0),
-         (more left dashes (record { number = number; indentation = indentation; entry = entry }) lines).1)
+    ≡ (
+      item_of entry (node_of (below left dashes (record { number = number; indentation = indentation; entry = entry }) lines).0) (pairs_of (more left dashes (record { number = number; indentation = indentation; entry = entry }) lines).0),
+      (more left dashes (record { number = number; indentation = indentation; entry = entry }) lines).1,
+    )
 unfolding item_under
 item-is left dashes number indentation (entries.Item value) lines e = value-is left dashes number indentation (entries.Item value) value lines refl
 item-is left dashes number indentation (entries.MapItem key value) lines e =
     ap (λ (r : Node × List Line). (Mapped ((key, r.0) ∷ pairs_of (read_lines left dashes Pairs (behind_dash indentation) r.1).0), (read_lines left dashes Pairs (behind_dash indentation) r.1).1))
-        (value-is left (dashes ++ indentation ∷ []) number indentation (entries.MapItem key value) value lines refl)
+    (value-is left (dashes ++ indentation ∷ []) number indentation (entries.MapItem key value) value lines refl)
 item-is left dashes number indentation (entries.Pair key value) lines e = absurd (cc e)
 item-is left dashes number indentation entries.Broken lines e = absurd (cc e)
 
 pair-is : (left : ℕ) (dashes : List (List ℕ)) (number : ℕ) (indentation : List ℕ) (entry : Entry) (lines : List Line) → is_of Pairs entry ≡ true
     → pair_under left dashes (record { number = number; indentation = indentation; entry = entry }) lines
-      ≡ (pair_of entry (node_of (below left dashes (record { number = number; indentation = indentation; entry = entry }) lines).0), (more left dashes (record { number = number; indentation = indentation; entry = entry }) lines).1)
+    ≡ (pair_of entry (node_of (below left dashes (record { number = number; indentation = indentation; entry = entry }) lines).0), (more left dashes (record { number = number; indentation = indentation; entry = entry }) lines).1)
 unfolding pair_under
 pair-is left dashes number indentation (entries.Pair key value) lines e = ap (λ (r : Node × List Line). ((key, r.0), r.1)) (value-is left dashes number indentation (entries.Pair key value) value lines refl)
 pair-is left dashes number indentation (entries.Item value) lines e = absurd (cc e)
@@ -90,18 +92,20 @@ module _ (left : ℕ) (dashes : List (List ℕ)) (indentation : List ℕ) (line 
       × ((items_from (line ∷ lines)).1 ≡ (items_from (item_under left dashes line lines).1).1)
   items-step e =
       let s = read_lines-step left dashes Items indentation line lines e in
-      let i = item-is left dashes line.number line.indentation line.entry lines (in_block-kind dashes Items indentation line e) in
-      ( ap (λ (r : Read). items_of r.0) s ∙ ap (λ (r : Node × List Line). r.0 ∷ items_of (items_from r.1).0) (sym i)
-      , ap (λ (r : Read). r.1) s ∙ ap (λ (r : Node × List Line). (items_from r.1).1) (sym i))
+      let i = item-is left dashes line.number line.indentation line.entry lines (in_block-kind dashes Items indentation line e) in (
+        ap (λ (r : Read). items_of r.0) s ∙ ap (λ (r : Node × List Line). r.0 ∷ items_of (items_from r.1).0) (sym i),
+        ap (λ (r : Read). r.1) s ∙ ap (λ (r : Node × List Line). (items_from r.1).1) (sym i),
+      )
 
   pub pairs-step : is_in_block dashes Pairs indentation line ≡ true
       → (pairs_of (pairs_from (line ∷ lines)).0 ≡ (pair_under left dashes line lines).0 ∷ pairs_of (pairs_from (pair_under left dashes line lines).1).0)
       × ((pairs_from (line ∷ lines)).1 ≡ (pairs_from (pair_under left dashes line lines).1).1)
   pairs-step e =
       let s = read_lines-step left dashes Pairs indentation line lines e in
-      let i = pair-is left dashes line.number line.indentation line.entry lines (in_block-kind dashes Pairs indentation line e) in
-      ( ap (λ (r : Read). pairs_of r.0) s ∙ ap (λ (r : (List ℕ × Node) × List Line). r.0 ∷ pairs_of (pairs_from r.1).0) (sym i)
-      , ap (λ (r : Read). r.1) s ∙ ap (λ (r : (List ℕ × Node) × List Line). (pairs_from r.1).1) (sym i))
+      let i = pair-is left dashes line.number line.indentation line.entry lines (in_block-kind dashes Pairs indentation line e) in (
+        ap (λ (r : Read). pairs_of r.0) s ∙ ap (λ (r : (List ℕ × Node) × List Line). r.0 ∷ pairs_of (pairs_from r.1).0) (sym i),
+        ap (λ (r : Read). r.1) s ∙ ap (λ (r : (List ℕ × Node) × List Line). (pairs_from r.1).1) (sym i),
+      )
 
 pub stop-next : (left : ℕ) (dashes : List (List ℕ)) (kind : Kind) (indentation : List ℕ) (lines : List Line) → next_is_in dashes kind indentation lines ≡ false → read_lines left dashes kind indentation lines ≡ (End, lines)
 stop-next left dashes kind indentation [] e = read_lines-end left dashes kind indentation

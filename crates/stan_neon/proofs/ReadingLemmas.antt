@@ -1,7 +1,7 @@
 -- Lines that are read as a block: each number of steps that is no less than the lines gives the same.
-use Rattle.std.proofs.Common.{◌≡◌, ℕ, ◌+◌, ◌-◌, ◌<◌, ◌≤◌, zero, suc, List, [], ◌∷◌, ◌++◌, Bool, true, false, length, refl, sym, ap, ◌∙◌, arith}
+use Rattle.std.proofs.Common.{◌≡◌, ℕ, ◌-◌, ◌≤◌, zero, suc, List, [], ◌∷◌, Bool, true, false, length, refl, ap, ◌∙◌, arith}
 use Rattle.std.specs.Prelude.{if◌then◌else◌}
-use Rattle.stan_model_neon.specs.Outlines.{Line, Outline, End, Stand, Kind, Pairs, kind_of, begins_map, behind_dash, is_in_block, dashes_under}
+use Rattle.stan_model_neon.specs.Outlines.{Line, End, Kind, Pairs, kind_of, begins_map, behind_dash, is_in_block, dashes_under}
 use Rattle.stan_neon.specs.Reading.{Read, Reader, opens, opened, under, further, standing, with_next, with_further, stood, lines_within, read_lines}
 
 abbrev Shrinks : Reader → Type 0
@@ -67,7 +67,7 @@ stood-agree most r s h a left dashes kind indentation line lines le =
     let lf : length f.1 ≤ most = omega (arith, further-shrinks r h left dashes line u.1) in
     let next : with_next r left dashes kind indentation line u.0 f ≡ with_next s left dashes kind indentation line u.0 f = ap (standing line u.0 f.0) (a left dashes kind indentation f.1 lf) in
     let more : with_further r left dashes kind indentation line u ≡ with_further s left dashes kind indentation line u =
-        next ∙ ap (λ (g : Read). with_next s left dashes kind indentation line u.0 g) (further-agree most r s a left dashes line u.1 lu) in
+    next ∙ ap (λ (g : Read). with_next s left dashes kind indentation line u.0 g) (further-agree most r s a left dashes line u.1 lu) in
     more ∙ ap (λ (v : Read). with_further s left dashes kind indentation line v) (opened-agree most r s a left (dashes_under dashes line) line lines le)
 
 within-agree : (most n m : ℕ) → most ≤ n → most ≤ m → Agree most (lines_within n) (lines_within m)
@@ -79,7 +79,7 @@ within-agree most (suc n) zero ln lm left dashes kind indentation (l ∷ ls) le 
 within-agree most (suc n) (suc m) ln lm left dashes kind indentation [] le = refl
 within-agree most (suc n) (suc m) ln lm left dashes kind indentation (l ∷ ls) le =
     by (is_in_block dashes kind indentation l)
-        (stood-agree (length ls) (lines_within n) (lines_within m) (within-shrinks n) (within-agree (length ls) n m (omega arith) (omega arith)) left dashes kind indentation l ls (omega arith))
+    (stood-agree (length ls) (lines_within n) (lines_within m) (within-shrinks n) (within-agree (length ls) n m (omega arith) (omega arith)) left dashes kind indentation l ls (omega arith))
   where
     by : (b : Bool) → stood (lines_within n) left dashes kind indentation l ls ≡ stood (lines_within m) left dashes kind indentation l ls
         → (if b then stood (lines_within n) left dashes kind indentation l ls else (End, l ∷ ls)) ≡ (if b then stood (lines_within m) left dashes kind indentation l ls else (End, l ∷ ls))

@@ -3,3 +3,4 @@ pub mod Reader
 pub mod Blocks
 pub mod Texts
 pub mod Stops
+pub mod Laws

@@ -19,7 +19,12 @@ use std::alloc::Global;
 impl<'a> Reader<'a> {
     // The items of a block.
     #[cycle(blocks)]
-    fn items(&mut self, alloc: Global, place: Place<'a>, left: u32) -> Result<Items<Node>, OutOfMemory>
+    fn items(
+        &mut self,
+        alloc: Global,
+        place: Place<'a>,
+        left: u32,
+    ) -> Result<Items<Node>, OutOfMemory>
         ensures value { IfOk result (λ nodes. nodes ≡ items_of (lines_at left (dashes_of self.old) ItemLines (indentation_of place.entry) (ahead self.old)).0) }
         ensures lines { OnOk result (ahead self.new ≡ (lines_at left (dashes_of self.old) ItemLines (indentation_of place.entry) (ahead self.old)).1) }
         ensures dashes { OnOk result (dashes_of self.new ≡ dashes_of self.old) }
@@ -77,7 +82,12 @@ impl<'a> Reader<'a> {
     // A pair, with what stands under it.
     #[cycle(blocks)]
     #[tactic(auto, unfolding(crate::specs::Blocks::pair_under))]
-    fn pair(&mut self, alloc: Global, line: Line<'a>, left: u32) -> Result<(Text, Node), OutOfMemory>
+    fn pair(
+        &mut self,
+        alloc: Global,
+        line: Line<'a>,
+        left: u32,
+    ) -> Result<(Text, Node), OutOfMemory>
         requires { IsTrue (is_of PairLines line.entry) }
         ensures value { IfOk result (λ pair. pair ≡ (pair_under left (dashes_of self.old) (line_of line.entry) (ahead self.old)).0) }
         ensures lines { OnOk result (ahead self.new ≡ (pair_under left (dashes_of self.old) (line_of line.entry) (ahead self.old)).1) }
@@ -154,9 +164,7 @@ impl<'a> Reader<'a> {
         ensures dashes { OnOk result (dashes_of self.new ≡ dashes_of self.old) }
     {
         match self.opened(left, above) {
-            Some(opened) => {
-                self.lines(alloc, opened, left.saturating_sub(1))
-            }
+            Some(opened) => { self.lines(alloc, opened, left.saturating_sub(1)) }
             None => Ok(Node::Null),
         }
     }

@@ -3,6 +3,7 @@
 
 mod blocks;
 mod document;
+pub mod laws;
 mod reader;
 
 pub use document::{NeonStop, read};

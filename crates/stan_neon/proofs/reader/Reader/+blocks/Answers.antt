@@ -1,4 +1,4 @@
-use Rattle.std.proofs.Common.{◌≡◌, ◌∙◌, ◌++◌, sym, ap, append-nil, true, false, arith}
+use Rattle.std.proofs.Common.{◌≡◌, ◌∙◌, ◌++◌, sym, ap, append-nil, true, false}
 use Rattle.std.specs.Prelude.{Some}
 use Rattle.stan_model_neon.specs.declared.node.Node.TheVariants.{rolls-List, rolls-Map}
 use Rattle.stan_model_neon.specs.Nodes.{Listed, Mapped}
@@ -16,7 +16,7 @@ items-loop-nodes-smaller t c =
     let taken = rw c.in-Some.is at c.in_ok-line.ensures.taken in
     let lines = rw c.in-Some.is at c.in_ok-line.ensures.lines in
     items-smaller c.args.left (dashes_of c.args.self.now) (dashes_of c.loop-nodes.self) (dashes_of c.take.new.self) (indentation_of c.args.place) (line_of c.in-Some.line) (ahead c.loop-nodes.self) (ahead c.take.new.self) (ahead c.item.new.self)
-        c.loop-nodes.invariant.dashes c.in_ok-line.ensures.dashes lines taken c.in_ok-node.ensures.lines
+    c.loop-nodes.invariant.dashes c.in_ok-line.ensures.dashes lines taken c.in_ok-node.ensures.lines
 
 pub items-loop-nodes-preserved : goal.items-loop-nodes-preserved
 items-loop-nodes-preserved t c =
@@ -57,7 +57,7 @@ pairs-loop-pairs-smaller t c =
     let taken = rw c.in-Some.is at c.in_ok-line.ensures.taken in
     let lines = rw c.in-Some.is at c.in_ok-line.ensures.lines in
     pairs-smaller c.args.left (dashes_of c.args.self.now) (dashes_of c.loop-pairs.self) (dashes_of c.take.new.self) (indentation_of c.args.place) (line_of c.in-Some.line) (ahead c.loop-pairs.self) (ahead c.take.new.self) (ahead c.pair.new.self)
-        c.loop-pairs.invariant.dashes c.in_ok-line.ensures.dashes lines taken c.in_ok-pair.ensures.lines
+    c.loop-pairs.invariant.dashes c.in_ok-line.ensures.dashes lines taken c.in_ok-pair.ensures.lines
 
 pub pairs-loop-pairs-preserved : goal.pairs-loop-pairs-preserved
 pairs-loop-pairs-preserved t c =
@@ -100,7 +100,7 @@ lines-returns-else-is_empty-clause-value t c =
     let p = c.args.opened.indentation.now in
     sym (rolls-List c.in_ok-nodes-in-Items.nodes) ∙ ap Listed value
     ∙ list-is c.args.left D p (ahead c.args.self.now) (c.requires ∙ ap (λ k. Some (kind_is k)) c.in-Items.is)
-        (λ e. let f : true ≡ false = sym (c.is_empty.ensures.1 (value ∙ e)) ∙ c.if-is_empty.false in cc f)
+    (λ e. let f : true ≡ false = sym (c.is_empty.ensures.1 (value ∙ e)) ∙ c.if-is_empty.false in cc f)
     ∙ ap (λ k. node_of (read_lines c.args.left D (kind_is k) p (ahead c.args.self.now)).0) (sym c.in-Items.is)
 
 pub lines-returns-else-is_empty-2-clause-value : goal.lines-returns-else-is_empty-2-clause-value
@@ -108,8 +108,8 @@ lines-returns-else-is_empty-2-clause-value t c =
     let D = dashes_of c.args.self.now in
     let p = c.args.opened.indentation.now in
     let value : c.in_ok-pairs-in-Pairs.pairs ≡ pairs_of (read_lines c.args.left D PairLines p (ahead c.args.self.now)).0 =
-        c.in_ok-pairs-in-Pairs.ensures.value ∙ ap (λ ps. ps ++ pairs_of (read_lines c.args.left D PairLines p (ahead c.args.self.now)).0) c.new.ensures in
+    c.in_ok-pairs-in-Pairs.ensures.value ∙ ap (λ ps. ps ++ pairs_of (read_lines c.args.left D PairLines p (ahead c.args.self.now)).0) c.new.ensures in
     sym (rolls-Map c.in_ok-pairs-in-Pairs.pairs) ∙ ap Mapped value
     ∙ map-is c.args.left D p (ahead c.args.self.now) (c.requires ∙ ap (λ k. Some (kind_is k)) c.in-Pairs.is)
-        (λ e. let f : true ≡ false = sym (c.is_empty-in-Pairs.ensures.1 (value ∙ e)) ∙ c.if-is_empty-2.false in cc f)
+    (λ e. let f : true ≡ false = sym (c.is_empty-in-Pairs.ensures.1 (value ∙ e)) ∙ c.if-is_empty-2.false in cc f)
     ∙ ap (λ k. node_of (read_lines c.args.left D (kind_is k) p (ahead c.args.self.now)).0) (sym c.in-Pairs.is)
