@@ -1,100 +1,17 @@
-//! Plays each row of the files below `data/`, a folder for each kind of reading, and prints a line for each: `ok`, the folder and the
-//! row, or `WRONG` and what was read. The last line counts both. The status is 0 where no row is wrong, else 1.
+//! Plays each row of the files below `data/`, a folder for each kind of reading.
 #![tactic(auto)]
 
 mod names;
 mod outside;
-mod play;
 mod reading;
-mod rows;
 mod slow;
 mod tokens;
 mod trees;
 
-use play::difference;
-use reading::{FOLDERS, Kind};
-use rows::rows;
+use reading::FOLDERS;
+use stan_rows::play;
 use std::process::ExitCode;
-use std::rt::Files;
-use std::{fs, io};
-
-#[derive(Clone, Copy)]
-struct Score {
-    ok: u64,
-    wrong: u64,
-}
 
 fn main(rt: HostRuntime) -> ExitCode {
-    match run(&rt) {
-        Ok(0) => ExitCode::SUCCESS,
-        Ok(_) => ExitCode::FAILURE,
-        Err(error) => {
-            let _ = rt.eprintln(&error);
-            ExitCode::FAILURE
-        }
-    }
-}
-
-// How many rows are wrong.
-fn run<R: Files + Print + AllocGlobal + Clone + Drop>(rt: &R) -> io::Result<u64> {
-    let mut score = Score { ok: 0, wrong: 0 };
-    for (folder, kind) in FOLDERS {
-        for name in &files_of(rt, folder)? {
-            play_file(rt, folder, kind, name, &mut score)?;
-        }
-    }
-    let Score { ok, wrong } = score;
-    println!(rt; "{ok} ok, {wrong} wrong")?;
-    Ok(wrong)
-}
-
-// The names of a folder's files, in byte order.
-fn files_of<R: Files + AllocGlobal + Clone + Drop>(
-    rt: &R,
-    folder: &str,
-) -> io::Result<Vec<String>> {
-    let mut names = Vec::new(rt.alloc());
-    for entry in fs::read_dir(rt, folder)? {
-        names.push(String::from_str(rt.alloc(), entry?.file_name())?)?;
-    }
-    names.sort()?;
-    Ok(names)
-}
-
-fn play_file<R: Files + Print + AllocGlobal>(
-    rt: &R,
-    folder: &str,
-    kind: Kind,
-    name: &str,
-    score: &mut Score,
-) -> io::Result<()> {
-    let path = format!(in rt.alloc(); "{folder}/{name}")?;
-    let text = fs::read_to_string(rt, path)?;
-    let Ok(rows) = rows(rt.alloc(), &text) else {
-        return Err(io::Error::from(io::ErrorKind::OutOfMemory));
-    };
-    for row in &rows {
-        play_row(rt, folder, kind, row, score)?;
-    }
-    Ok(())
-}
-
-fn play_row<R: Print + AllocGlobal>(
-    rt: &R,
-    folder: &str,
-    kind: Kind,
-    row: &str,
-    score: &mut Score,
-) -> io::Result<()> {
-    match difference(rt.alloc(), kind, row) {
-        Ok(None) => {
-            score.ok = score.ok.saturating_add(1);
-            println!(rt; "ok {folder}: {row}")
-        }
-        Ok(Some(found)) => {
-            score.wrong = score.wrong.saturating_add(1);
-            println!(rt; "WRONG {folder}: {row}: {found}")
-        }
-        Err(_) => Err(io::Error::from(io::ErrorKind::OutOfMemory)),
-    }
+    play(&rt, &FOLDERS)
 }

@@ -1,7 +1,7 @@
 //! What is read of lines and names, and what an index answers, as text.
 
-use crate::rows::{number, parts, plain, text_of, words};
 use stan_base::{AskKind, Name, OutOfMemory, line_at, resolved};
+use stan_rows::{number, parts, plain, text_of, words};
 use stan_table::{Ask, Exported, FunctionNode, Index};
 use std::alloc::Global;
 

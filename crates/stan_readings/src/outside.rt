@@ -4,9 +4,9 @@ ghost use Rattle.std.specs.Prelude.{◌≡◌, ◌<◌, length, map, string_byte
 ghost use Rattle.stan_outside.specs.MemoryTree.{memory_contents};
 ghost use Rattle.stan_outside.specs.Outside.{Lists};
 
-use crate::rows::{number, parts, text_of};
 use stan_base::OutOfMemory;
 use stan_outside::{MemorySink, MemoryTree, Sink, Tree, are_files};
+use stan_rows::{number, parts, text_of};
 use std::alloc::Global;
 
 type Entry = (String, Vec<u8>);

@@ -2,6 +2,7 @@
 
 use crate::{names, outside, tokens, trees};
 use stan_base::OutOfMemory;
+use stan_rows::Reading;
 use std::alloc::Global;
 
 /// The folders of rows, each with what is read of their texts.
@@ -66,25 +67,27 @@ pub enum Kind {
     Folders,
 }
 
-pub fn reading(alloc: Global, kind: Kind, text: &str) -> Result<String, OutOfMemory> {
-    match kind {
-        Kind::Tokens => tokens::tokens(alloc, text),
-        Kind::CodeTokens => tokens::tokens_of_code(alloc, text),
-        Kind::Comments => tokens::comments_of(alloc, text),
-        Kind::Pieces => tokens::pieces(alloc, text),
-        Kind::TextValues => tokens::value_of_text(alloc, text),
-        Kind::IntegerValues => tokens::value_of_integer(alloc, text),
-        Kind::Trees => trees::tree(alloc, text),
-        Kind::Depths => trees::depth(alloc, text),
-        Kind::Nested => trees::nested(alloc, text),
-        Kind::Exits => trees::exit(alloc, text),
-        Kind::Lines => names::line(alloc, text),
-        Kind::Folds => names::folds(alloc, text),
-        Kind::Resolved => names::resolved_name(alloc, text),
-        Kind::Asks => names::ask(alloc, text),
-        Kind::Index => names::answer(alloc, text),
-        Kind::Paths => outside::paths(alloc, text),
-        Kind::Sinks => outside::writes(alloc, text),
-        Kind::Folders => outside::reads(alloc, text),
+impl Reading for Kind {
+    fn reading(&self, alloc: Global, text: &str) -> Result<String, OutOfMemory> {
+        match self {
+            Kind::Tokens => tokens::tokens(alloc, text),
+            Kind::CodeTokens => tokens::tokens_of_code(alloc, text),
+            Kind::Comments => tokens::comments_of(alloc, text),
+            Kind::Pieces => tokens::pieces(alloc, text),
+            Kind::TextValues => tokens::value_of_text(alloc, text),
+            Kind::IntegerValues => tokens::value_of_integer(alloc, text),
+            Kind::Trees => trees::tree(alloc, text),
+            Kind::Depths => trees::depth(alloc, text),
+            Kind::Nested => trees::nested(alloc, text),
+            Kind::Exits => trees::exit(alloc, text),
+            Kind::Lines => names::line(alloc, text),
+            Kind::Folds => names::folds(alloc, text),
+            Kind::Resolved => names::resolved_name(alloc, text),
+            Kind::Asks => names::ask(alloc, text),
+            Kind::Index => names::answer(alloc, text),
+            Kind::Paths => outside::paths(alloc, text),
+            Kind::Sinks => outside::writes(alloc, text),
+            Kind::Folders => outside::reads(alloc, text),
+        }
     }
 }
