@@ -1,5 +1,5 @@
 -- Faults that are sorted and freed of repeats.
-use Rattle.std.proofs.Common.{◌≡◌, ◌∷◌, Option, Some, None, refl, sym, ⊎_elim, ℕ, ◌+◌, ◌<◌, ◌++◌, take, length, get_or, Bool, List, [], map, ap, ◌∙◌, rules}
+use Rattle.std.proofs.Common.{◌≡◌, ◌∷◌, Option, Some, refl, sym, ⊎_elim, ℕ, ◌+◌, ◌<◌, ◌++◌, take, length, get_or, Bool, List, [], map, ap, ◌∙◌, rules}
 use Rattle.std.specs.Ordering.{eq_by_cmp}
 use Rattle.std.specs.List.{dedup, filter}
 use Rattle.std.proofs.lemmas.Bool.{cases_Bool}

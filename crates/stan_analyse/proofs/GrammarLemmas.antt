@@ -5,7 +5,7 @@ use Rattle.stan_model_grammar.specs.declared.token.Token.{Token}
 use Rattle.stan_model_grammar.specs.declared.token.TokenKind.{TokenKind}
 use Rattle.stan_model_grammar.specs.declared.token.TokenKind.TheVariants as kinds
 use Rattle.stan_model_grammar.specs.Strata.{kind_at, is_end, loosest}
-use Rattle.stan_model_grammar.specs.Expressions.{Is, Stands}
+use Rattle.stan_model_grammar.specs.Expressions.{Is}
 use Rattle.stan_model_grammar.specs.Takes.{IsTreeOf}
 use Rattle.stan_model_grammar.specs.Sites.{HeldBody, sites, bodies_among}
 use Rattle.stan_model_grammar.specs.Files.{Statement, Expression, Statements, no_statement, statement, Bodies, no_body, body, Top, Function, Plain, Closing, ends_statement, ReadsStatement, ReadsStatements, ReadsBodies, ReadsTop, ReadsTops, SpellsFile, IsFront, IsLongestFront, goes_on}

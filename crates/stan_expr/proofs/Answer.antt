@@ -1,5 +1,5 @@
 -- Why the answers of the parser are right.
-use Rattle.std.proofs.Common.{◌≡◌, ℕ, ◌+◌, ◌≤◌, ◌<◌, List, Option, Some, None, arith, sym, ap, ◌∙◌, Bool, true, false, length}
+use Rattle.std.proofs.Common.{◌≡◌, ℕ, ◌+◌, ◌≤◌, ◌<◌, List, Some, None, arith, sym, ap, ◌∙◌, Bool, true, false, length}
 use Rattle.std.specs.Prelude.{IsTrue}
 use Rattle.stan_model_grammar.specs.declared.token.Token.{Token}
 use Rattle.stan_model_grammar.specs.Depth.{depth}

@@ -1,5 +1,5 @@
 -- The strata one after the other, and what stands past the last token.
-use Rattle.std.proofs.Common.{◌≡◌, ℕ, zero, suc, add-zero, ◌-◌, ◌+◌, ◌≤◌, ◌<◌, Bool, true, false, if◌then◌else◌, length, subst, List, Some, None, refl, sym, ap, ◌∙◌, arith}
+use Rattle.std.proofs.Common.{◌≡◌, ℕ, zero, suc, add-zero, ◌-◌, ◌+◌, ◌≤◌, Bool, true, false, if◌then◌else◌, length, subst, List, Some, None, refl, sym, ◌∙◌, arith}
 use Rattle.stan_places.specs.declared.stop.Stop.{Stop}
 use Rattle.stan_places.specs.declared.stop.Stop.TheVariants.{Memory, Absent}
 use Rattle.stan_places.specs.Gives.{Fails}
