@@ -23,10 +23,7 @@ use Rattle.stan_base.proofs.SortLemmas.{IsStrictlySortedBy-sorted_once, Contains
 use Rattle.stan_analyst.specs.declared.verdict.Fault.{Fault}
 use Rattle.stan_analyst.specs.contracts.verdict.FaultPartialEq.TheImpl as equality
 use Rattle.stan_analyst.specs.Verdict.{fault_of}
-
-none_left : {X : Type 0} (o : Option X) → ((x : X) → o ≡ Some x → ⊥) → o ≡ None
-none_left None h = refl
-none_left (Some x) h = absurd (h x refl)
+use Rattle.stan_expr_rules.proofs.Choices.{none_of}
 
 -- the program's order of faults answers `Equal` where its test of equality passes
 ties : (x y : Fault) → (equality.ghosts).eq x y ≡ eq_by_cmp fault_cmp (fault_of x) (fault_of y)
@@ -83,5 +80,5 @@ module _ (table : List model.Exported) (source : List ℕ) where
       no_fault_found none =
           before
           ∙ sym (append-nil (call_faults table source (take i calls)))
-          ∙ ap (λ fs. call_faults table source (take i calls) ++ option_to_list fs) (ap (option_map fault_of) (sym (none_left found none)) ∙ finds)
+          ∙ ap (λ fs. call_faults table source (take i calls) ++ option_to_list fs) (ap (option_map fault_of) (sym (none_of found none)) ∙ finds)
           ∙ sym call_faults-more

@@ -14,6 +14,7 @@ use Rattle.stan_expr_law.proofs.TreeLemmas.{one_tree}
 use Rattle.stan_expr_rules.proofs.InsideLemmas.{tree_inside, kind_inside, is_inside}
 use Rattle.stan_analyse.specs.Statements.{push}
 use Rattle.stan_analyse.proofs.Starts.{starts, tree_starts}
+use Rattle.stan_expr_rules.proofs.Greedy.{one_token}
 
 -- ---- kinds of tokens
 
@@ -33,9 +34,6 @@ start_does_not_go_on kinds.Finally next h = absurd cc
 start_does_not_go_on _ next h = refl
 
 module _ (ts : List Token) where
-  one_token : (at : ℕ) (t u : Token) → Stands ts at t → Stands ts at u → t ≡ u
-  one_token at t u a b = cc
-
   -- ---- where a statement stands
 
   pub statement_after : (levels : ℕ) (s : Statement) (from to : ℕ) → ReadsStatement ts levels s from to → (from < to) × (to ≤ length ts)

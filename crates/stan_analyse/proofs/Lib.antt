@@ -1,15 +1,12 @@
-pub mod Calls
 pub mod ExistenceLemmas
 pub mod ExportLemmas
 pub mod FaultLemmas
 pub mod FeedLemmas
 pub mod FrontLemmas
 pub mod GrammarLemmas
-pub mod Lists
 pub mod NamesWithin
 pub mod ParserLemmas
 pub mod ReadingLemmas
 pub mod ReadingSteps
-pub mod SiteLemmas
 pub mod Starts
 pub mod TokenCount

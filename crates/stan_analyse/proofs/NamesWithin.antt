@@ -13,7 +13,7 @@ use Rattle.stan_model_grammar.specs.Reading.{AreCode}
 use Rattle.stan_model_facts.specs.Facts.{calls_of_statement, calls_of_statements, calls_of_bodies, calls_of_top}
 use Rattle.stan_lexer.proofs.OrderLemmas.{php_tokens_in_order}
 use Rattle.stan_analyse.specs.Names.{names_of_top, IsWithin}
-use Rattle.stan_analyse.proofs.SiteLemmas.{IsAmong, calls_stand, spelled_sites_stand}
+use Rattle.stan_sites.proofs.SiteLemmas.{IsAmong, calls_stand, spelled_sites_stand}
 
 module _ (source : List ℕ) where
   pub code_within : (ts : List Token) → AreCode source ts → All (IsWithin source) ts

@@ -16,11 +16,11 @@ use Rattle.stan_model_facts.specs.Facts.{calls_of_statement, calls_of_statements
 use Rattle.stan_expr_rules.proofs.InsideLemmas.{tree_inside, kind_inside}
 use Rattle.stan_expr_law.proofs.TreeLemmas.{one_tree}
 use Rattle.stan_expr_takes.proofs.Takes.{one_end}
-use Rattle.stan_analyse.specs.declared.sites.HeldBody as held_body
-use Rattle.stan_analyse.specs.declared.sites.Site as program
-use Rattle.stan_analyse.specs.declared.sites.Site.TheVariants.{Call, Body}
+use Rattle.stan_sites.specs.declared.sites.HeldBody as held_body
+use Rattle.stan_sites.specs.declared.sites.Site as program
+use Rattle.stan_sites.specs.declared.sites.Site.TheVariants.{Call, Body}
 use Rattle.stan_analyse.specs.Parser.{IsPlain, StatementAt, IsBlock, BlockAt, BodyIs}
-use Rattle.stan_analyse.specs.Sites.{site_of}
+use Rattle.stan_sites.specs.Sites.{site_of}
 use Rattle.stan_analyse.specs.Statements.{push, push_body}
 use Rattle.stan_analyse.proofs.GrammarLemmas.{statement_end, statement_after, no_statement_at_brace, statements_to_stop, statements_to_brace, statements_push}
 

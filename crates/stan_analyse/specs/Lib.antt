@@ -3,6 +3,5 @@ pub mod Laws
 pub mod Lines
 pub mod Names
 pub mod Parser
-pub mod Sites
 pub mod Statements
 pub mod Tree

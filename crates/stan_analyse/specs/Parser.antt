@@ -17,7 +17,7 @@ use Rattle.stan_analyse.specs.declared.parser.Front.TheVariants.{Whole, Part}
 use Rattle.stan_analyse.specs.declared.parser.Plain.{Plain}
 use Rattle.stan_analyse.specs.declared.tree.Names.{Names}
 use Rattle.stan_analyse.specs.Names.{names_of_top}
-use Rattle.stan_analyse.specs.Sites.{site_of}
+use Rattle.stan_sites.specs.Sites.{site_of}
 
 -- the names that tops declare and call
 pub record AreNames (tops : List Top) (names : Names) : Type 0 where

@@ -9,7 +9,6 @@ mod lines;
 mod parser;
 mod reading;
 mod rules;
-mod sites;
 mod spelling;
 mod tree;
 

@@ -7,15 +7,15 @@ ghost use Rattle.stan_model_grammar.specs.Depth.{depth};
 ghost use Rattle.stan_model_grammar.specs.Takes.{IsTreeOf};
 ghost use Rattle.stan_model_grammar.specs.Sites.{bodies_among, calls_among};
 ghost use Rattle.stan_analyse.specs.Parser.{TokenAt, HeadAt, PlainAt, StatementAt, BodiesAre, BodyIs, BlockAt, TopAt, IsFrontOf, StopsAt};
-ghost use Rattle.stan_analyse.specs.Sites.{site_of, held_of};
+ghost use Rattle.stan_sites.specs.Sites.{site_of, held_of};
 ghost use Rattle.stan_syntax.specs.Tree.{tree_of};
 
-use crate::sites::{HeldBody, Site, sites_of};
 use crate::tree::Names;
 use stan_base::OutOfMemory;
 use stan_expr::{Parsed, expression};
 use stan_model_grammar::token::{Token, TokenKind};
 use stan_places::places::{after, kind_at, token_at};
+use stan_sites::{HeldBody, Site, sites_of};
 use stan_syntax::Expr;
 use std::alloc::Global;
 

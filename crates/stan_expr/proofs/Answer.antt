@@ -14,6 +14,7 @@ use Rattle.stan_expr_rules.proofs.Greedy.{Near, Picks}
 use Rattle.stan_expr_law.proofs.Law.{some_is_picked}
 use Rattle.stan_expr_greedy.proofs.Sound.{expression_sound}
 use Rattle.stan_expr_takes.proofs.Takes.{picked_is_tree}
+use Rattle.stan_expr_rules.proofs.Choices.{nothing_is, some_is}
 
 -- where no picked tree up to an end is within the depth, each is too deep
 pub too_deep : (ts : List Token) (levels n at to : ℕ) (t : Tree) → Spells ts t at to → IsEnd ts to → 200 ≤ n + levels
@@ -24,19 +25,14 @@ too_deep ts levels n at to t h e le none =
     (p.0, picked_is_tree ts p.0 at to p.1, omega (arith, far))
 
 module _ where
-  some_apart : {A : Type 0} (x : A) → (let s : Option A = None in s ≡ Some x) → ⊥
-  some_apart x h = cc
-
-  some_same : {A : Type 0} (x y : A) → (let s : A → Option A = Some in s x ≡ s y) → x ≡ y
-  some_same x y h = cc
 
 pub none_read : (ts : List Token) (n at to : ℕ) (g : Tree) → expression_at ts n at ≡ None → Picks ts g at to → depth g ≤ n → ⊥
-none_read ts n at to g h p d = some_apart (g, to) (sym h ∙ expression_complete ts g n at to p d)
+none_read ts n at to g h p d = nothing_is (g, to) (sym h ∙ expression_complete ts g n at to p d)
 
 -- what is read is the picked tree that is within the depth
 pub same_read : (ts : List Token) (n at to end : ℕ) (f g : Tree) → expression_at ts n at ≡ Some (f, end) → Picks ts g at to → depth g ≤ n → (f ≡ g) × (end ≡ to)
 same_read ts n at to end f g h p d =
-    let e = some_same (f, end) (g, to) (sym h ∙ expression_complete ts g n at to p d) in
+    let e = some_is (f, end) (g, to) (sym h ∙ expression_complete ts g n at to p d) in
     (ap (λ (x : Tree × ℕ). x.0) e, ap (λ (x : Tree × ℕ). x.1) e)
 
 -- what is read is the tree of the tokens, and ends within them

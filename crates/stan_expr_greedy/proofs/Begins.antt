@@ -13,7 +13,7 @@ use Rattle.stan_model_grammar.specs.Trees.{TypeTree, Nullable, Union, Tree, node
 use Rattle.stan_model_grammar.specs.Expressions.{ItemSort, argument, element, expression, parameter, captured, arm, IsSomeItem, Is, May, MayBeVisible, Types, MayBeTyped, Reads, Forms, Lists, ItemReads}
 use Rattle.stan_expr_rules.specs.Parse.{begins_type}
 use Rattle.stan_expr_rules.proofs.InsideLemmas.{stands_kind}
-use Rattle.stan_expr_greedy.proofs.Reading.{nothing_is}
+use Rattle.stan_expr_rules.proofs.Choices.{nothing_is}
 
 -- ---- expressions
 

@@ -11,8 +11,8 @@ use Rattle.stan_model_grammar.specs.Expressions.{ItemSort, StepSort, further, Is
 use Rattle.stan_model_grammar.specs.Depth.{depth, form_depth, items_depth, item_depth, default_depth, arguments_depth, class_depth, member_depth, steps_depth, step_depth}
 use Rattle.stan_expr_rules.proofs.InsideLemmas.{form_inside, stands_inside}
 use Rattle.stan_expr_rules.specs.Parse.{enclosed, may_default, some_items, called, member, class_reference, atom_with, post, strata, below}
-use Rattle.stan_expr_rules.proofs.Greedy.{J, Near, Greedy}
-use Rattle.stan_expr_greedy.proofs.Computes.{apart, one_token}
+use Rattle.stan_expr_rules.proofs.Greedy.{J, Near, Greedy, one_token}
+use Rattle.stan_expr_greedy.proofs.Computes.{apart}
 use Rattle.stan_expr_greedy.proofs.Begins.{clash, closes}
 use Rattle.stan_expr_greedy.proofs.CompleteItems.{Ends, StepEnds, Within, Gives, reader, Taken, AllTaken, enclosed_reads}
 use Rattle.stan_expr_greedy.proofs.CompleteForms.{FormIs}

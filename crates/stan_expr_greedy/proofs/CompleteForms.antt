@@ -14,12 +14,13 @@ use Rattle.stan_expr_rules.proofs.InsideLemmas.{step_inside}
 use Rattle.stan_expr_rules.specs.Parse as parse
 use Rattle.stan_expr_rules.specs.Parse.{enclosed, fenced, fenced_some, element_at, positional, captured_at, arm_at, may_capture, parameters, may_be_called, class_reference, new, brackets, short_array, long_array, is_set, empty, exit, match_form, closure, text, parts, leaf, static_word, form_by}
 use Rattle.stan_expr_rules.proofs.Greedy.{J, Near}
-use Rattle.stan_expr_greedy.proofs.Reading.{after_at, after_not, after_to, nothing_is}
+use Rattle.stan_expr_greedy.proofs.Reading.{after_at, after_not, after_to}
 use Rattle.stan_expr_greedy.proofs.Computes.{after_other, may_reads}
 use Rattle.stan_expr_greedy.proofs.Begins.{clash, item_begins}
 use Rattle.stan_expr_greedy.proofs.CompleteParts.{may_return_reads, body_reads}
 use Rattle.stan_expr_greedy.proofs.CompleteItems.{Gives, AllTaken, captured_reads, some_items_read}
 use Rattle.stan_expr_greedy.proofs.CompleteSteps.{steps_same, parts_read}
+use Rattle.stan_expr_rules.proofs.Choices.{nothing_is}
 
 module _ (ts : List Token) (b : Bool → ℕ → ℕ → parse.Read Tree) where
   -- what is read at a place

@@ -19,11 +19,10 @@ use Rattle.stan_model_grammar.specs.Expressions.{is_assignable, Is, Stands, Form
 use Rattle.stan_expr_rules.proofs.InsideLemmas.{is_inside}
 use Rattle.stan_expr_rules.specs.Parse.{stands_arrow, is_arrow}
 use Rattle.stan_expr_rules.proofs.Greedy.{Near, Greedy, leaf_is_none}
-use Rattle.stan_expr_greedy.proofs.Reading.{nothing_is}
-use Rattle.stan_expr_greedy.proofs.Computes.{none_of}
 use Rattle.stan_expr_greedy.proofs.SoundTables.{stratum_bounds, leaf_low_small}
 use Rattle.stan_expr_greedy.proofs.Begins.{clash}
 use Rattle.stan_expr_greedy.proofs.CompleteParts.{get_some}
+use Rattle.stan_expr_rules.proofs.Choices.{none_of, nothing_is}
 
 -- ---- tables
 

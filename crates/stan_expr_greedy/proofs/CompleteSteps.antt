@@ -16,10 +16,10 @@ use Rattle.stan_expr_rules.proofs.Greedy.{J, Near}
 use Rattle.stan_expr_rules.proofs.InsideLemmas.{stands_kind}
 use Rattle.stan_expr_greedy.proofs.Reading.{after_at, after_is, after_not, after_to, same_at, same_not}
 use Rattle.stan_expr_greedy.proofs.Computes.{apart, operator_is, operator_stratum, Turns}
-use Rattle.stan_expr_greedy.proofs.SoundTables.{double_bounds}
 use Rattle.stan_expr_greedy.proofs.Begins.{begins, clash}
 use Rattle.stan_expr_greedy.proofs.CompleteParts.{all_reads}
 use Rattle.stan_expr_greedy.proofs.CompleteItems.{operated, Gives, Taken, AllTaken}
+use Rattle.stan_expr_rules.proofs.Tables.{double_colon_bounds, scoped_variable}
 
 abbrev pub step_list : Steps → List Step
 step_list no_step = []
@@ -111,10 +111,6 @@ module _ (ts : List Token) (b : Bool → ℕ → ℕ → Read Tree) where
   property_taken class_suffix false name es at m to s k h g = rw (k, property_reads false false name es (at + 1) m to h g) refl
   property_taken sort nullsafe name es at m to s k h g = absurd s
 
-  class_scope_is : (kind : TokenKind) → IsTrue (is_scoped class_suffix kind) → kind ≡ kinds.Variable
-  class_scope_is kinds.Variable h = refl
-  class_scope_is kind h = clash _ h
-
   scoped_with_reads : (callable : Bool) (t : Token) (es : Arguments) (at to : ℕ) → called ts b callable at ≡ Some (es, to) → scoped_with ts b callable t at ≡ Some (Scoped t es, to)
   unfolding scoped_with
   scoped_with_reads callable t es at to h = rw h refl
@@ -125,7 +121,7 @@ module _ (ts : List Token) (b : Bool → ℕ → ℕ → Read Tree) where
       let two : at + 1 + 1 ≡ at + 2 = omega arith in
       rw (k, s, names, two, scoped_with_reads true t es (at + 2) to h) refl
   scoped_taken class_suffix t es at to names k s h =
-      let v = after_to ts kinds.Variable (at + 1) (at + 2) (λ e. cc) (stands_kind ts (at + 1) t s ∙ class_scope_is t.kind names) (omega arith) in
+      let v = after_to ts kinds.Variable (at + 1) (at + 2) (λ e. cc) (stands_kind ts (at + 1) t s ∙ scoped_variable t.kind names) (omega arith) in
       rw (k, v, s, scoped_with_reads false t es (at + 2) to h) refl
   scoped_taken sort t es at to names k s h = clash _ names
 
@@ -148,7 +144,7 @@ module _ (ts : List Token) (b : Bool → ℕ → ℕ → Read Tree) where
   suffix_none_by kinds.LeftBracket next at near = absurd (omega (arith, near (omega arith)))
   suffix_none_by kinds.Arrow next at near = absurd (omega (arith, near (omega arith)))
   suffix_none_by kinds.NullsafeArrow next at near = absurd (omega (arith, near (omega arith)))
-  suffix_none_by kinds.DoubleColon next at near = let d = double_bounds next in let far = near (omega arith) in absurd (omega (arith, far, d.1))
+  suffix_none_by kinds.DoubleColon next at near = let d = double_colon_bounds next in let far = near (omega arith) in absurd (omega (arith, far, d.1))
   suffix_none_by kinds.LeftParenthesis next at near = absurd (omega (arith, near (omega arith)))
   suffix_none_by kinds.Increment next at near = absurd (omega (arith, near (omega arith)))
   suffix_none_by kinds.Decrement next at near = absurd (omega (arith, near (omega arith)))

@@ -18,15 +18,12 @@ use Rattle.stan_expr_rules.specs.Parse as parse
 use Rattle.stan_expr_rules.specs.Parse.{first_of, stands_conditional, is_conditional, is_arrow, suffixed, with_suffixes, with_operations, form_by, atom_with, post_with, new, new_with, post, assigned, target, prefixed, operand, chain, binary, conditional, by_fixity, operated, stratum, strata}
 use Rattle.stan_expr_rules.proofs.Greedy.{J, Near, Greedy, leaf_is_none, plain, plain_of}
 use Rattle.stan_expr_rules.proofs.InsideLemmas.{stands_kind}
-use Rattle.stan_expr_greedy.proofs.Reading.{after_at, not_true, same_at, same_not}
-use Rattle.stan_expr_greedy.proofs.Computes.{operates_joins, operator_is, question_joins, question_is_alone, assigning_not, assigning_is}
+use Rattle.stan_expr_greedy.proofs.Reading.{after_at, same_at, same_not}
+use Rattle.stan_expr_greedy.proofs.Computes.{operates_joins, operator_is, lone_question_joins, question_is_alone, assigning_not, assigning_is}
 use Rattle.stan_expr_greedy.proofs.CompleteItems.{Gives, AllTaken}
 use Rattle.stan_expr_greedy.proofs.CompleteSteps.{step_list, steps_same, suffixes_read, operation_list, operations_same, operations_read}
 use Rattle.stan_expr_greedy.proofs.CompleteForms.{FormIs}
-
-and_not : (x : Bool) → (x && false) ≡ false
-and_not true = refl
-and_not false = refl
+use Rattle.stan_expr_rules.proofs.Choices.{and_false, not_true}
 
 both_same : {A : Type 0} (c : Bool) (x : A) → cond c x x ≡ x
 both_same true x = refl
@@ -41,7 +38,7 @@ pub in_each : (ts : List Token) (p : Bool) (k : ℕ) (t : Tree) (at to : ℕ) �
 in_each ts p k t at to h = plain ts false p k t at to (no_pattern ts k t at to h) h
 
 pub pattern_fits : (ts : List Token) (p : Bool) (k : ℕ) (t : Tree) (at to : ℕ) → Greedy ts p k t at to → (is_pattern t && not p) ≡ false
-pattern_fits ts true k t at to h = and_not (is_pattern t)
+pattern_fits ts true k t at to h = and_false (is_pattern t)
 pattern_fits ts false k t at to h = rw (no_pattern ts k t at to h) refl
 
 pub no_conditional : (ts : List Token) (p : Bool) (k : ℕ) (t : Tree) (at to : ℕ) → k < 22 → Greedy ts p k t at to → is_conditional t ≡ false
@@ -55,7 +52,7 @@ no_elvis ts j t at to h =
       | inl is ↦
           let low : tighter j ≡ 21 = rw is.0 refl in
           let none = no_conditional ts false (tighter j) t at to (omega arith) h in
-          rw none (and_not (j == 23))
+          rw none (and_false (j == 23))
       | inr other ↦ rw other.0 refl
     ]
 
@@ -201,7 +198,7 @@ module _ (ts : List Token) (b : Bool → ℕ → ℕ → parse.Read Tree) where
       let six : binary_stratum o - 6 ≡ binary_stratum o - 1 - 5 = omega arith in
       let f : strata ts b p (binary_stratum o - 6) at ≡ Some (d, m) = rw six first in
       let here : operated ts b (binary_stratum o) d m ≡ Some (node (first_of d) (Binary d sign o e), to) =
-      rw (still, other, and_not (eqb (binary_stratum o) 23), operator_is ts sign o m c operates, by_fixity_is (fixity o) o d m single) (binary_reads d sign o e m c to operates h) in
+      rw (still, other, and_false (eqb (binary_stratum o) 23), operator_is ts sign o m c operates, by_fixity_is (fixity o) o d m single) (binary_reads d sign o e m c to operates h) in
       from_stratum p (binary_stratum o) k d (node (first_of d) (Binary d sign o e)) at m to lo hi (λ le. near le) f (stratum_here (binary_stratum o) d (node (first_of d) (Binary d sign o e)) m to joined here)
 
   conditional_reads : (c d e : Tree) (at m to : ℕ) → Gives ts b false loosest d at m → Is ts m kinds.Colon → Gives ts b false 21 e (m + 1) to → conditional ts b c at ≡ Some (node (first_of c) (Conditional c d e), to)
@@ -218,7 +215,7 @@ module _ (ts : List Token) (b : Bool → ℕ → ℕ → parse.Read Tree) where
   unfolding strata operated
   conditional_level p k c d e at m z to lo still other near first question colon h y g =
       let t : Tree = node (first_of c) (Conditional c d e) in
-      let joined : J ts m ≡ 22 = question_joins ts m question colon in
+      let joined : J ts m ≡ 22 = lone_question_joins ts m question colon in
       let here : operated ts b 22 c m ≡ Some (t, to) = rw (still, question_is_alone ts m question colon) (conditional_reads c d e (m + 1) z to h y g) in
       let s : stratum ts b 22 c m ≡ Some (t, to) = stratum_here 22 c t m to joined here in
       let f : strata ts b p 17 at ≡ Some (t, to) = rw first s in

@@ -15,9 +15,9 @@ use Rattle.stan_model_grammar.specs.Expressions.{element, arm, suffix, part, ope
 use Rattle.stan_model_grammar.specs.Depth.{is_operation, left_depth, depth}
 use Rattle.stan_expr_rules.proofs.InsideLemmas.{is_inside, form_inside, stands_inside}
 use Rattle.stan_expr_rules.specs.Parse.{first_of, below}
-use Rattle.stan_expr_rules.proofs.Greedy.{Near, first_stands, no_arrow}
-use Rattle.stan_expr_greedy.proofs.Computes.{apart, one_token}
-use Rattle.stan_expr_greedy.proofs.SoundTables.{prefix_bounds, stratum_bounds}
+use Rattle.stan_expr_rules.proofs.Greedy.{Near, first_stands, no_arrow, one_token}
+use Rattle.stan_expr_greedy.proofs.Computes.{apart}
+use Rattle.stan_expr_greedy.proofs.SoundTables.{stratum_bounds}
 use Rattle.stan_expr_greedy.proofs.Begins.{clash, begins, tree_begins}
 use Rattle.stan_expr_greedy.proofs.CompleteSteps.{called_is}
 use Rattle.stan_expr_greedy.proofs.CompleteForms.{single_reads, brackets_read, short_array_reads, array_reads, list_reads, is_set_reads, empty_reads, exit_reads, match_reads, text_reads, new_reads, closure_behind, closure_reads, arrow_behind, arrow_reads}
@@ -26,6 +26,7 @@ use Rattle.stan_expr_greedy.proofs.CompleteStarts.{single_in, right_in, tighter_
 use Rattle.stan_expr_greedy.proofs.CompleteClaims.{AtomF, PostF, LevelF, FormC, TreeC, ItemsC, ArgumentsC, ClassC, StepsC, inner, inner_loosest, enclosed_claim}
 use Rattle.stan_expr_greedy.proofs.CompleteClaims.{atom_claims, post_claims, level_claims}
 use Rattle.stan_expr_greedy.proofs.CompleteProductions.{fenced_claim, fenced_some_claim, parameters_claim}
+use Rattle.stan_expr_rules.proofs.Tables.{prefix_bounds}
 
 left_deep : (operation : Bool) (d : ℕ) → d ≤ left_depth operation d
 left_deep true d = omega arith

@@ -1,28 +1,25 @@
 -- What the steps of the parser compute where a token stands, or does not.
-use Rattle.std.proofs.Common.{◌≡◌, ℕ, zero, suc, ◌+◌, ◌≤◌, ◌<◌, Bool, true, false, List, [], ◌∷◌, ◌++◌, Option, Some, None, refl, sym, ap, ◌∙◌, append_assoc, arith}
+use Rattle.std.proofs.Common.{◌≡◌, ℕ, zero, suc, ◌+◌, ◌≤◌, ◌<◌, Bool, true, false, List, [], ◌∷◌, ◌++◌, Some, None, refl, sym, ap, ◌∙◌, append_assoc, arith}
 use Rattle.std.proofs.lemmas.List.{append-nil}
 use Rattle.stan_model_grammar.specs.declared.operators.AssignmentOperator.{AssignmentOperator}
 use Rattle.stan_model_grammar.specs.declared.operators.BinaryOperator.{BinaryOperator}
 use Rattle.stan_model_grammar.specs.declared.token.Token.{Token}
 use Rattle.stan_model_grammar.specs.declared.token.TokenKind.{TokenKind}
 use Rattle.stan_model_grammar.specs.declared.token.TokenKind.TheVariants as kinds
-use Rattle.stan_model_grammar.specs.Strata.{kind_at, joins, question, binary_stratum, assignment_at}
-use Rattle.stan_model_grammar.specs.Expressions.{Is, Stands, May, Operates, Assigns}
+use Rattle.stan_model_grammar.specs.Strata.{kind_at, question, binary_stratum, assignment_at}
+use Rattle.stan_model_grammar.specs.Expressions.{Is, May, Operates, Assigns}
 use Rattle.stan_expr_rules.specs.Places.{after, may, operator_at, assigning_at}
 use Rattle.stan_expr_rules.specs.Parse.{Turn, many}
 use Rattle.stan_expr_rules.proofs.Greedy.{J}
-use Rattle.stan_expr_greedy.proofs.Reading.{nothing_is, after_to, after_not}
-use Rattle.stan_expr_greedy.proofs.SoundTables.{operator_joins}
+use Rattle.stan_expr_greedy.proofs.Reading.{after_to, after_not}
+use Rattle.stan_expr_rules.proofs.Choices.{none_of}
+use Rattle.stan_expr_rules.proofs.Tables.{assignment_joins, operator_joins}
 
 -- ---- truth values and options
 
 -- a test tells two kinds apart
 pub apart : {A : Type 0} (test : A → Bool) (a b : A) → test a ≡ true → test b ≡ false → a ≡ b → ⊥
 apart test a b has lacks e = cc (has, lacks, ap test e)
-
-pub none_of : {A : Type 0} (o : Option A) → ((x : A) → o ≡ Some x → ⊥) → o ≡ None
-none_of None h = refl
-none_of (Some x) h = absurd (h x refl)
 
 -- ---- tokens that stand there, and those that do not
 
@@ -43,9 +40,6 @@ pub may_reads : (ts : List Token) (stands : Bool) (kind : TokenKind) (at to : �
 may_reads ts true kind at to some h other = may_at ts kind at to some h.0 h.1
 may_reads ts false kind at to some h other = rw h (may_not ts kind to (other refl))
 
-pub one_token : (ts : List Token) (at : ℕ) (t u : Token) → Stands ts at t → Stands ts at u → t ≡ u
-one_token ts at t u e f = let g : (let s : Token → Option Token = Some in s t ≡ s u) = sym e ∙ f in cc
-
 -- ---- operators
 
 pub operates_joins : (ts : List Token) (sign : Token) (o : BinaryOperator) (at to : ℕ) → Operates ts sign o at to → J ts at ≡ binary_stratum o
@@ -64,8 +58,8 @@ question_not kinds.Colon h = absurd (h refl)
 question_not next h = refl
 
 -- `?` without `:` behind it
-pub question_joins : (ts : List Token) (at : ℕ) → Is ts at kinds.Question → (kind_at ts (at + 1) ≡ kinds.Colon → ⊥) → J ts at ≡ 22
-question_joins ts at k h = rw (k, question_not (kind_at ts (at + 1)) h) refl
+pub lone_question_joins : (ts : List Token) (at : ℕ) → Is ts at kinds.Question → (kind_at ts (at + 1) ≡ kinds.Colon → ⊥) → J ts at ≡ 22
+lone_question_joins ts at k h = rw (k, question_not (kind_at ts (at + 1)) h) refl
 
 pub question_is_alone : (ts : List Token) (at : ℕ) → Is ts at kinds.Question → (kind_at ts (at + 1) ≡ kinds.Colon → ⊥) → operator_at ts at ≡ None
 unfolding operator_at
@@ -73,26 +67,9 @@ question_is_alone ts at k h = rw (k, question_not (kind_at ts (at + 1)) h) refl
 
 -- ---- assignments
 
-assigns_five : (kind next : TokenKind) (o : AssignmentOperator) → assignment_at kind next ≡ Some o → joins kind next ≡ 5
-assigns_five kinds.Assign next o h = refl
-assigns_five kinds.PlusAssign next o h = refl
-assigns_five kinds.MinusAssign next o h = refl
-assigns_five kinds.TimesAssign next o h = refl
-assigns_five kinds.DivideAssign next o h = refl
-assigns_five kinds.DotAssign next o h = refl
-assigns_five kinds.ModuloAssign next o h = refl
-assigns_five kinds.PowerAssign next o h = refl
-assigns_five kinds.AmpersandAssign next o h = refl
-assigns_five kinds.BarAssign next o h = refl
-assigns_five kinds.CaretAssign next o h = refl
-assigns_five kinds.ShiftLeftAssign next o h = refl
-assigns_five kinds.ShiftRightAssign next o h = refl
-assigns_five kinds.CoalesceAssign next o h = refl
-assigns_five kind next o h = absurd (nothing_is o h)
-
 pub assigning_not : (ts : List Token) (at : ℕ) → (J ts at ≡ 5 → ⊥) → assigning_at ts at ≡ None
 unfolding assigning_at
-assigning_not ts at h = none_of (assignment_at (kind_at ts at) (kind_at ts (at + 1))) (λ o e. h (assigns_five (kind_at ts at) (kind_at ts (at + 1)) o e))
+assigning_not ts at h = none_of (assignment_at (kind_at ts at) (kind_at ts (at + 1))) (λ o e. h (assignment_joins (kind_at ts at) (kind_at ts (at + 1)) o e))
 
 pub assigning_is : (ts : List Token) (o : AssignmentOperator) (at to : ℕ) → Assigns ts o at to → assigning_at ts at ≡ Some o
 unfolding assigning_at

@@ -9,13 +9,11 @@ use Rattle.stan_model_grammar.specs.Strata.{kind_of, kind_at}
 use Rattle.stan_model_grammar.specs.Expressions.{May}
 use Rattle.stan_expr_rules.specs.Places.{same_kind, after_of, after, may_of, may}
 use Rattle.stan_expr_rules.specs.Parse.{Read, Turn, ◌>>=◌, choose, taken, many}
+use Rattle.stan_expr_rules.proofs.Choices.{some_is, not_true, nothing_is}
 
 pub bind_ok : {A B : Type 0} (r : Option A) (f : A → Option B) (y : B) → (r >>= f) ≡ Some y → (x : A) × (r ≡ Some x) × (f x ≡ Some y)
 bind_ok (Some x) f y e = (x, refl, e)
 bind_ok None f y e = absurd cc
-
-pub some_is : {A : Type 0} (x y : A) → (let s : A → Option A = Some in s x ≡ s y) → x ≡ y
-some_is x y e = cc
 
 -- what holds of the value that was given holds of the value that was read
 pub read_is : {A : Type 0} (P : A → Type 0) (x y : A) → (let s : A → Option A = Some in s x ≡ s y) → P x → P y
@@ -46,14 +44,7 @@ taken_none None h = cc
 pub none_is_not : {A : Type 0} (x : A) → (let s : Option A → Option (Option A) = Some in s None ≡ s (Some x)) → ⊥
 none_is_not x h = cc
 
-pub nothing_is : {A : Type 0} (x : A) → (let s : Option A = None in s ≡ Some x) → ⊥
-nothing_is x h = cc
-
 -- ---- tests
-
-pub not_true : (x : Bool) → (x ≡ true → ⊥) → x ≡ false
-not_true true h = absurd (h refl)
-not_true false h = refl
 
 pub choose_is : {A : Type 0} (o : Option ℕ) (f : ℕ → A) (other y : A) → choose o f other ≡ y → ((to : ℕ) × (o ≡ Some to) × (f to ≡ y)) ⊎ ((o ≡ None) × (other ≡ y))
 choose_is (Some to) f other y h = inl (to, refl, h)

@@ -18,12 +18,14 @@ use Rattle.stan_expr_rules.specs.Places.{same_kind, after, joins_at, operator_at
 use Rattle.stan_expr_rules.specs.Parse.{Read, all, first_of, stands_conditional, is_conditional, is_arrow, suffixed, with_suffixes, with_operations, form_by, atom_with, suffixes, post_with, new, new_with, post, assigned, target_by, target, prefixed, operand_by, operand, operation_with, operation_by, operation_at, operations, chain, binary, conditional, by_fixity, operated_by, operated, stratum, strata, below, expression_at}
 use Rattle.stan_expr_rules.proofs.Greedy.{J, Near, Greedy, Picks, first_stands, leaf_is_none, no_arrow, extend, plain}
 use Rattle.stan_expr_rules.proofs.InsideLemmas.{stands_kind}
-use Rattle.stan_expr_greedy.proofs.Reading.{bind_ok, gives, made_of, taken_is, taken_none, none_is_not, nothing_is, if_is, guard_ok, guard_not, same_is, after_is, Seq, many_sound}
+use Rattle.stan_expr_greedy.proofs.Reading.{bind_ok, gives, made_of, taken_is, taken_none, none_is_not, if_is, guard_ok, guard_not, same_is, after_is, Seq, many_sound}
 use Rattle.stan_expr_greedy.proofs.Computes.{operator_stratum}
-use Rattle.stan_expr_greedy.proofs.SoundTables.{stratum_bounds, stratum_other, tighter_bounds, right_bounds, prefix_bounds, same_fixity, is_question, question_stratum, no_assignment}
+use Rattle.stan_expr_greedy.proofs.SoundTables.{stratum_bounds, stratum_other, tighter_bounds, right_bounds, same_fixity, is_question, question_stratum, no_assignment}
 use Rattle.stan_expr_greedy.proofs.SoundItems.{Sound}
 use Rattle.stan_expr_greedy.proofs.SoundSteps.{suffixes_sound, new_sound}
 use Rattle.stan_expr_greedy.proofs.SoundForms.{IsAlone, form_by_sound}
+use Rattle.stan_expr_rules.proofs.Choices.{nothing_is}
+use Rattle.stan_expr_rules.proofs.Tables.{prefix_bounds}
 
 allowed : (p x : Bool) → (x && not p) ≡ false → (p ≡ true) ⊎ (x ≡ false)
 allowed true x h = inl refl

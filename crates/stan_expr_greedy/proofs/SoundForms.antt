@@ -13,11 +13,12 @@ use Rattle.stan_model_grammar.specs.TreeLists.{steps}
 use Rattle.stan_expr_rules.specs.Places.{after, may}
 use Rattle.stan_expr_rules.specs.Parse.{Read, stands_arrow, enclosed, fenced, fenced_some, element_at, positional, arm_at, parameters, may_capture, may_return, body, brackets, short_array, long_array, is_set, empty, exit, match_form, closure, arrow, parts, text, leaf, static_word, form_by, may_be_called}
 use Rattle.stan_expr_rules.proofs.Greedy.{J, Near}
-use Rattle.stan_expr_greedy.proofs.Reading.{bind_ok, gives, made_of, nothing_is, choose_is, after_is, after_none, may_is}
+use Rattle.stan_expr_greedy.proofs.Reading.{bind_ok, gives, made_of, choose_is, after_is, after_none, may_is}
 use Rattle.stan_expr_greedy.proofs.SoundParts.{may_return_sound, body_sound}
 use Rattle.stan_expr_greedy.proofs.SoundTables.{no_function}
 use Rattle.stan_expr_greedy.proofs.SoundItems.{Sound, next_sound, enclosed_sound, positional_sound, element_sound, arm_sound, fenced_sound, fenced_some_sound, parameters_sound, may_capture_sound, may_be_called_sound}
 use Rattle.stan_expr_greedy.proofs.SoundSteps.{parts_sound}
+use Rattle.stan_expr_rules.proofs.Choices.{nothing_is}
 
 module _ (ts : List Token) (b : Bool → ℕ → ℕ → Read Tree) (ih : Sound ts b) where
   -- it stands in a stratum in which nothing goes on with it

@@ -13,7 +13,8 @@ use Rattle.stan_expr_rules.specs.Places.{same_kind, after}
 use Rattle.stan_expr_rules.specs.Parse.{all, type_name, alternative, alternatives, union, nullable, type_by, type_tree, some_type, may_type, begins_type, may_return, closing_within, closing, body, visibility_by, visibility}
 use Rattle.stan_expr_rules.proofs.Greedy.{Near}
 use Rattle.stan_expr_rules.proofs.InsideLemmas.{stands_kind}
-use Rattle.stan_expr_greedy.proofs.Reading.{bind_ok, some_is, gives, made_of, taken_is, none_is_not, nothing_is, choose_is, if_is, guard_ok, same_is, after_is, Seq, many_sound}
+use Rattle.stan_expr_greedy.proofs.Reading.{bind_ok, gives, made_of, taken_is, none_is_not, choose_is, if_is, guard_ok, same_is, after_is, Seq, many_sound}
+use Rattle.stan_expr_rules.proofs.Choices.{nothing_is, some_is}
 
 module _ (ts : List Token) where
   -- ---- types

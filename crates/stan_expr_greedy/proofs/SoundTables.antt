@@ -1,16 +1,15 @@
 -- In which stratum a token goes on, by what the parser asked of it.
-use Rattle.std.proofs.Common.{◌≡◌, ℕ, ◌≤◌, ◌<◌, ◌==◌, Some, None, if◌then◌else◌, refl, sym, ap, subst, ◌∙◌, arith}
+use Rattle.std.proofs.Common.{◌≡◌, ℕ, ◌≤◌, ◌<◌, ◌==◌, None, if◌then◌else◌, refl, sym, ap, subst, ◌∙◌, arith}
 use Rattle.stan_model_grammar.specs.declared.operators.BinaryOperator.{BinaryOperator}
 use Rattle.stan_model_grammar.specs.declared.operators.BinaryOperator.TheVariants as binaries
 use Rattle.stan_model_grammar.specs.declared.operators.Fixity.{Fixity}
 use Rattle.stan_model_grammar.specs.declared.operators.Fixity.TheVariants as fixities
 use Rattle.stan_model_grammar.specs.declared.operators.Leaf.{Leaf}
 use Rattle.stan_model_grammar.specs.declared.operators.Leaf.TheVariants as leaves
-use Rattle.stan_model_grammar.specs.declared.operators.PrefixOperator.{PrefixOperator}
-use Rattle.stan_model_grammar.specs.declared.operators.PrefixOperator.TheVariants as prefixes
 use Rattle.stan_model_grammar.specs.declared.token.TokenKind.{TokenKind}
 use Rattle.stan_model_grammar.specs.declared.token.TokenKind.TheVariants as kinds
-use Rattle.stan_model_grammar.specs.Strata.{leaf_low, joins, joins_operated, joins_assigned, joins_alone, double_colon, question, binary_at, binary_stratum, fixity, tighter, right_side, prefix_stratum, assignment_at}
+use Rattle.stan_model_grammar.specs.Strata.{leaf_low, joins, joins_operated, joins_assigned, joins_alone, double_colon, question, binary_at, binary_stratum, fixity, tighter, right_side, assignment_at}
+use Rattle.stan_expr_rules.proofs.Tables.{double_colon_bounds}
 
 -- ---- strata
 
@@ -34,10 +33,6 @@ pub right_bounds : (o : BinaryOperator) → (5 ≤ right_side (fixity o) (binary
 right_bounds binaries.Power = (omega arith, omega arith)
 right_bounds o = (omega arith, omega arith)
 
-pub prefix_bounds : (o : PrefixOperator) → (5 ≤ prefix_stratum o) × (prefix_stratum o ≤ 29)
-prefix_bounds prefixes.Clone = (omega arith, omega arith)
-prefix_bounds o = (omega arith, omega arith)
-
 abbrev stratum_fixity : ℕ → Fixity
 stratum_fixity j = if (j == 6) then fixities.Right else (if (j == 14) then fixities.Single else (if (j == 15) then fixities.Single else (if (j == 21) then fixities.Right else fixities.Left)))
 
@@ -51,24 +46,17 @@ same_fixity o u e = fixity_is o ∙ (ap stratum_fixity e ∙ sym (fixity_is u))
 
 -- ---- what goes on
 
-question_joins : (next : TokenKind) → 22 ≤ joins kinds.Question next
-question_joins kinds.Colon = omega arith
-question_joins next = omega arith
-
-pub operator_joins : (kind next : TokenKind) (o : BinaryOperator) → binary_at kind next ≡ Some o → joins kind next ≡ binary_stratum o
-operator_joins kind next o h = ap (λ x. joins_operated x (joins_assigned (assignment_at kind next) (joins_alone kind next))) h
+question_least : (next : TokenKind) → 22 ≤ joins kinds.Question next
+question_least kinds.Colon = omega arith
+question_least next = omega arith
 
 none_joins : (kind next : TokenKind) → binary_at kind next ≡ None → joins kind next ≡ joins_assigned (assignment_at kind next) (joins_alone kind next)
 none_joins kind next h = ap (λ x. joins_operated x (joins_assigned (assignment_at kind next) (joins_alone kind next))) h
 
-pub double_bounds : (next : TokenKind) → (2 ≤ double_colon next) × (double_colon next ≤ 4)
-double_bounds kinds.Variable = (omega arith, omega arith)
-double_bounds next = (omega arith, omega arith)
-
 alone_joins : (kind next : TokenKind) → 6 ≤ joins_assigned (assignment_at kind next) (joins_alone kind next)
     → joins_assigned (assignment_at kind next) (joins_alone kind next) ≤ 29 → kind ≡ kinds.Question
 alone_joins kinds.Question next lo hi = refl
-alone_joins kinds.DoubleColon next lo hi = let d = double_bounds next in absurd (omega arith)
+alone_joins kinds.DoubleColon next lo hi = let d = double_colon_bounds next in absurd (omega arith)
 alone_joins kind next lo hi = absurd (omega arith)
 
 -- where no operator stands, only `?` goes on with an operand
@@ -85,23 +73,23 @@ question_stratum kind next e h =
 
 -- an assignment alone goes on in stratum 5
 pub no_assignment : (kind next : TokenKind) → assignment_at kind next ≡ None → joins kind next ≡ 5 → ⊥
-no_assignment kinds.Question next h e = let q = question_joins next in omega arith
-no_assignment kinds.DoubleColon next h e = let d = double_bounds next in omega arith
+no_assignment kinds.Question next h e = let q = question_least next in omega arith
+no_assignment kinds.DoubleColon next h e = let d = double_colon_bounds next in omega arith
 no_assignment kind next h e = first_of (omega arith, cc)
 
 -- what cannot be called goes on in no stratum 1
 pub no_call : (kind next : TokenKind) → (kind ≡ kinds.LeftParenthesis → ⊥) → 1 ≤ joins kind next → 1 < joins kind next
 no_call kinds.LeftParenthesis next h le = absurd (h refl)
-no_call kinds.Question next h le = let q = question_joins next in omega arith
-no_call kinds.DoubleColon next h le = let d = double_bounds next in omega (arith, d.0)
+no_call kinds.Question next h le = let q = question_least next in omega arith
+no_call kinds.DoubleColon next h le = let d = double_colon_bounds next in omega (arith, d.0)
 no_call kind next h le = omega arith
 
 -- only `fn` and `function` go on in stratum 0
 pub no_function : (kind next : TokenKind) → (kind ≡ kinds.Fn → ⊥) → (kind ≡ kinds.Function → ⊥) → 0 < joins kind next
 no_function kinds.Fn next h g = absurd (h refl)
 no_function kinds.Function next h g = absurd (g refl)
-no_function kinds.Question next h g = let q = question_joins next in omega arith
-no_function kinds.DoubleColon next h g = let d = double_bounds next in omega arith
+no_function kinds.Question next h g = let q = question_least next in omega arith
+no_function kinds.DoubleColon next h g = let d = double_colon_bounds next in omega arith
 no_function kind next h g = omega arith
 
 double_other : (next : TokenKind) → (next ≡ kinds.Variable → ⊥) → 3 < double_colon next
@@ -110,7 +98,7 @@ double_other next h = omega arith
 
 -- only `::` before a variable goes on in stratum 2
 pub no_scope : (kind next : TokenKind) → (kind ≡ kinds.DoubleColon → next ≡ kinds.Variable → ⊥) → 2 ≤ joins kind next → 2 < joins kind next
-no_scope kinds.Question next h le = let q = question_joins next in omega arith
+no_scope kinds.Question next h le = let q = question_least next in omega arith
 no_scope kinds.DoubleColon next h le = let d = double_other next (h refl) in omega arith
 no_scope kind next h le = omega arith
 
@@ -121,7 +109,7 @@ pub no_class_part : (kind next : TokenKind) → (kind ≡ kinds.LeftBracket → 
 no_class_part kinds.LeftBracket next h i j l le = absurd (h refl)
 no_class_part kinds.Arrow next h i j l le = absurd (i refl)
 no_class_part kinds.NullsafeArrow next h i j l le = absurd (j refl)
-no_class_part kinds.Question next h i j l le = let q = question_joins next in omega arith
+no_class_part kinds.Question next h i j l le = let q = question_least next in omega arith
 no_class_part kinds.DoubleColon next h i j l le = let d = double_other next (l refl) in omega arith
 no_class_part kind next h i j l le = omega arith
 
@@ -136,5 +124,5 @@ no_suffix kinds.Arrow next a b c d e f g le = absurd (d refl)
 no_suffix kinds.NullsafeArrow next a b c d e f g le = absurd (e refl)
 no_suffix kinds.Increment next a b c d e f g le = absurd (f refl)
 no_suffix kinds.Decrement next a b c d e f g le = absurd (g refl)
-no_suffix kinds.Question next a b c d e f g le = let q = question_joins next in omega arith
+no_suffix kinds.Question next a b c d e f g le = let q = question_least next in omega arith
 no_suffix kind next a b c d e f g le = omega arith

@@ -7,8 +7,6 @@ use Rattle.stan_model_grammar.specs.declared.operators.BinaryOperator.{BinaryOpe
 use Rattle.stan_model_grammar.specs.declared.operators.BinaryOperator.TheVariants as binaries
 use Rattle.stan_model_grammar.specs.declared.operators.Fixity.{Fixity}
 use Rattle.stan_model_grammar.specs.declared.operators.Fixity.TheVariants as fixities
-use Rattle.stan_model_grammar.specs.declared.operators.PrefixOperator.{PrefixOperator}
-use Rattle.stan_model_grammar.specs.declared.operators.PrefixOperator.TheVariants as prefixes
 use Rattle.stan_model_grammar.specs.declared.token.Token.{Token}
 use Rattle.stan_model_grammar.specs.declared.token.TokenKind.TheVariants as kinds
 use Rattle.stan_model_grammar.specs.Strata.{kind_at, loosest, prefix_stratum, binary_stratum, fixity, tighter}
@@ -17,10 +15,11 @@ use Rattle.stan_model_grammar.specs.Expressions.{parameter, operation, Operates,
 use Rattle.stan_expr_rules.proofs.InsideLemmas.{reads_inside, items_go, may_goes, return_goes}
 use Rattle.stan_expr_rules.proofs.Greedy.{J, Near, Greedy, Picks, extend}
 use Rattle.stan_expr_law.proofs.Spelled.{Free}
-use Rattle.stan_expr_law.proofs.Levels.{Levels, no_level, level, takes_covered, takes_onward, Covered, covered_self, Going, scoped, operated, asked, mark, onward, side, left_side, other_side, other_onward, operator_bounds, double_colon_bounds, going_rises, assignment_joins, end_joins, goes_mark, goes_rises, Leads, Led, led_more, leads_within, led_within, leads_rise, led_up, led_out, led_over, leads_unassigned, by_suffixes, by_operations, by_operator, by_question, Picked, Law}
+use Rattle.stan_expr_law.proofs.Levels.{Levels, no_level, level, takes_covered, takes_onward, Covered, covered_self, Going, scoped, operated, asked, mark, onward, side, left_side, other_side, other_onward, operator_bounds, going_rises, end_joins, goes_mark, goes_rises, Leads, Led, led_more, leads_within, led_within, leads_rise, led_up, led_out, led_over, leads_unassigned, by_suffixes, by_operations, by_operator, by_question, Picked, Law}
 use Rattle.stan_expr_law.proofs.LawItems.{ends_by, exact, items_picked}
 use Rattle.stan_expr_law.proofs.LawSteps.{new_picked}
 use Rattle.stan_expr_law.proofs.LawAtoms.{simple_picked, target_picked}
+use Rattle.stan_expr_rules.proofs.Tables.{assignment_joins, double_colon_bounds, prefix_bounds}
 
 -- ---- tables
 
@@ -51,10 +50,6 @@ left_or_not : (f : Fixity) → (f ≡ fixities.Left) ⊎ (f ≢ fixities.Left)
 left_or_not fixities.Left = inl refl
 left_or_not fixities.Right = inr (λ e. cc)
 left_or_not fixities.Single = inr (λ e. cc)
-
-prefix_bounds : (o : PrefixOperator) → (5 ≤ prefix_stratum o) × (prefix_stratum o ≤ loosest)
-prefix_bounds prefixes.Clone = (omega arith, omega arith)
-prefix_bounds o = (omega arith, omega arith)
 
 -- no operator is in these
 operator_apart : (o : BinaryOperator) → (binary_stratum o ≢ 22) × (binary_stratum o ≢ 7)

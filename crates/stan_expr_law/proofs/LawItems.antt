@@ -11,10 +11,7 @@ use Rattle.stan_expr_rules.proofs.InsideLemmas.{reads_inside, item_inside, items
 use Rattle.stan_expr_rules.proofs.Greedy.{Near, Greedy, plain, plain_of}
 use Rattle.stan_expr_law.proofs.Spelled.{Free}
 use Rattle.stan_expr_law.proofs.Levels.{no_level, led_over, end_joins, Law}
-
-not_true : (b : Bool) → (b ≡ true → ⊥) → b ≡ false
-not_true true h = absurd (h refl)
-not_true false h = refl
+use Rattle.stan_expr_rules.proofs.Choices.{not_true}
 
 or_same : (a b c d : Bool) → a ≡ b → c ≡ d → (a || c) ≡ (b || d)
 or_same a b c d e f = ap (λ y. y || c) e ∙ ap (λ y. b || y) f

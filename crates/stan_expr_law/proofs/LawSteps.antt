@@ -9,8 +9,10 @@ use Rattle.stan_model_grammar.specs.Expressions.{argument, suffix, class_suffix,
 use Rattle.stan_expr_rules.proofs.InsideLemmas.{steps_go, step_inside, items_go, stands_kind, class_inside}
 use Rattle.stan_expr_rules.proofs.Greedy.{J, Near}
 use Rattle.stan_expr_law.proofs.Spelled.{Free}
-use Rattle.stan_expr_law.proofs.Levels.{Levels, level, takes_covered, Going, pushed, indexed, property, scoped, called, increased, decreased, operated, asked, mark, stratum, onward, ends, places, and_false, arrow_joins, operator_bounds, double_colon_bounds, going_rises, goes_mark, goes_rises, Leads, Led, leads_more, leads_rise, Law}
+use Rattle.stan_expr_law.proofs.Levels.{Levels, level, takes_covered, Going, pushed, indexed, property, scoped, called, increased, decreased, operated, asked, mark, stratum, onward, ends, places, operator_bounds, going_rises, goes_mark, goes_rises, Leads, Led, leads_more, leads_rise, Law}
 use Rattle.stan_expr_law.proofs.LawItems.{ends_by, exact, items_picked, member_picked}
+use Rattle.stan_expr_rules.proofs.Choices.{and_false}
+use Rattle.stan_expr_rules.proofs.Tables.{arrow_joins, double_colon_bounds}
 
 variable_or_not : (kind : TokenKind) → (kind ≡ kinds.Variable) ⊎ (double_colon kind ≡ 4)
 variable_or_not kinds.Variable = inl refl

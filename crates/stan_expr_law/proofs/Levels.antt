@@ -1,7 +1,6 @@
 -- What may follow an expression: steps with which the levels that are open around it go on.
-use Rattle.std.proofs.Common.{◌≡◌, ◌≢◌, ℕ, ◌+◌, ◌-◌, ◌≤◌, ◌<◌, Bool, true, false, ◌&&◌, IsTrue, List, [], ◌∷◌, Some, refl, sym, ap, subst, ◌∙◌, arith, ◌⊎◌, inl, inr, true≢false}
+use Rattle.std.proofs.Common.{◌≡◌, ◌≢◌, ℕ, ◌+◌, ◌-◌, ◌≤◌, ◌<◌, Bool, true, false, ◌&&◌, IsTrue, List, [], ◌∷◌, refl, sym, ap, subst, ◌∙◌, arith, ◌⊎◌, inl, inr, true≢false}
 use Rattle.stan_model_grammar.specs.declared.operators.ArrayStyle.TheVariants as styles
-use Rattle.stan_model_grammar.specs.declared.operators.AssignmentOperator.{AssignmentOperator}
 use Rattle.stan_model_grammar.specs.declared.operators.BinaryOperator.{BinaryOperator}
 use Rattle.stan_model_grammar.specs.declared.operators.BinaryOperator.TheVariants as binaries
 use Rattle.stan_model_grammar.specs.declared.operators.Fixity.{Fixity}
@@ -9,13 +8,15 @@ use Rattle.stan_model_grammar.specs.declared.operators.Fixity.TheVariants as fix
 use Rattle.stan_model_grammar.specs.declared.token.Token.{Token}
 use Rattle.stan_model_grammar.specs.declared.token.TokenKind.{TokenKind}
 use Rattle.stan_model_grammar.specs.declared.token.TokenKind.TheVariants as kinds
-use Rattle.stan_model_grammar.specs.Strata.{kind_at, leaf_of, prefix_of, binary_at, binary_stratum, fixity, tighter, right_side, assignment_at, joins, joins_operated, joins_assigned, joins_alone, double_colon, loosest, is_exit, names_scoped}
+use Rattle.stan_model_grammar.specs.Strata.{kind_at, leaf_of, prefix_of, binary_stratum, fixity, tighter, right_side, double_colon, loosest, is_exit, names_scoped}
 use Rattle.stan_model_grammar.specs.Trees.{Tree, node, Single, Brackets, Array, IsSet, Empty, Exit, New, Match, Closure, Arrow, Text, Post, Prefix, Assignment, Chain, Binary, Conditional, Items, no_arguments, arguments, MemberName, Steps, no_step, step, Push, Index, Property, Scoped, Call, Increment, Decrement, Operation, Part, Inserted, Further}
 use Rattle.stan_model_grammar.specs.Expressions.{argument, suffix, operation, is_variable, is_place, arrow, Is, Stands, Between, Operates, May, Reads, Lists, Members, Repeats, IsEnd}
 use Rattle.stan_expr_rules.proofs.InsideLemmas.{reads_inside, items_go, member_inside, stands_kind}
 use Rattle.stan_expr_law.proofs.TreeLemmas.{ends_join_none}
 use Rattle.stan_expr_rules.proofs.Greedy.{J, Greedy}
 use Rattle.stan_expr_law.proofs.Spelled.{Free}
+use Rattle.stan_expr_rules.proofs.Choices.{and_false}
+use Rattle.stan_expr_rules.proofs.Tables.{arrow_joins, double_colon_bounds, operator_joins, question_joins}
 
 -- ---- levels that are open, the innermost first: the first stratum in which each could go on, and the last one
 
@@ -142,10 +143,6 @@ places b (step x xs) = places (is_place x) xs
 
 -- ---- tables
 
-pub and_false : (b : Bool) → (b && false) ≡ false
-and_false true = refl
-and_false false = refl
-
 pub left_side : (f : Fixity) (j : ℕ) → f ≡ fixities.Left → side_of f j ≡ tighter j
 left_side fixities.Left j e = refl
 left_side fixities.Right j e = cc
@@ -175,10 +172,6 @@ pub operator_bounds : (o : BinaryOperator) → (6 ≤ binary_stratum o) × (bina
 operator_bounds binaries.Power = (omega arith, omega arith, omega arith, omega arith)
 operator_bounds o = (omega arith, omega arith, omega arith, omega arith)
 
-pub double_colon_bounds : (kind : TokenKind) → (2 ≤ double_colon kind) × (double_colon kind ≤ 4)
-double_colon_bounds kinds.Variable = (omega arith, omega arith)
-double_colon_bounds kind = (omega arith, omega arith)
-
 -- What is appended is marked by a stratum below 5, and the rest by its own.
 pub going_bounds : (x : Going) → ((stratum x ≡ 1) × (onward x ≡ 1) × (1 ≤ mark x) × (mark x ≤ 4)) ⊎ ((stratum x ≡ mark x) × (6 ≤ mark x) × (mark x ≤ 28) × (mark x ≤ onward x))
 going_bounds pushed = inl (refl, refl, omega arith, omega arith)
@@ -193,34 +186,6 @@ going_bounds (asked d e) = inr (refl, omega arith, omega arith, omega arith)
 
 pub going_rises : (x : Going) → stratum x ≤ onward x
 going_rises x = elim (going_bounds x) [ inl b ↦ omega (arith, b.0, b.1) | inr b ↦ omega (arith, b.0, b.3) ]
-
-question_joins : (next : TokenKind) → next ≢ kinds.Colon → joins kinds.Question next ≡ 22
-question_joins kinds.Colon apart = absurd (apart refl)
-question_joins next apart = refl
-
-pub operator_joins : (kind next : TokenKind) (o : BinaryOperator) → binary_at kind next ≡ Some o → joins kind next ≡ binary_stratum o
-operator_joins kind next o e = ap (λ y. joins_operated y (joins_assigned (assignment_at kind next) (joins_alone kind next))) e
-
-pub assignment_joins : (kind next : TokenKind) (o : AssignmentOperator) → assignment_at kind next ≡ Some o → joins kind next ≡ 5
-assignment_joins kinds.Assign next o e = refl
-assignment_joins kinds.PlusAssign next o e = refl
-assignment_joins kinds.MinusAssign next o e = refl
-assignment_joins kinds.TimesAssign next o e = refl
-assignment_joins kinds.DivideAssign next o e = refl
-assignment_joins kinds.DotAssign next o e = refl
-assignment_joins kinds.ModuloAssign next o e = refl
-assignment_joins kinds.PowerAssign next o e = refl
-assignment_joins kinds.AmpersandAssign next o e = refl
-assignment_joins kinds.BarAssign next o e = refl
-assignment_joins kinds.CaretAssign next o e = refl
-assignment_joins kinds.ShiftLeftAssign next o e = refl
-assignment_joins kinds.ShiftRightAssign next o e = refl
-assignment_joins kinds.CoalesceAssign next o e = refl
-assignment_joins kind next o e = cc
-
-pub arrow_joins : (nullsafe : Bool) (next : TokenKind) → joins (arrow nullsafe) next ≡ 3
-arrow_joins true next = refl
-arrow_joins false next = refl
 
 module _ (ts : List Token) where
   pub end_joins : (to : ℕ) → IsEnd ts to → J ts to ≡ 30

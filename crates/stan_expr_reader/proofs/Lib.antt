@@ -1,3 +1,1 @@
-pub mod BranchLemmas
 pub mod MadeLemmas
-pub mod StrataLemmas

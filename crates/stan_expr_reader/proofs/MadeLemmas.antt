@@ -4,22 +4,11 @@ use Rattle.std.specs.Prelude.{map, IsTrue, ◌↔◌}
 use Rattle.stan_model_grammar.specs.Trees as model
 use Rattle.stan_syntax.specs.declared.tree.Expr.{Expr, roll-Expr}
 use Rattle.stan_syntax.specs.declared.tree.Form.TheVariants as forms
-use Rattle.stan_syntax.specs.declared.tree.Operation.{Operation}
 use Rattle.stan_syntax.specs.declared.tree.Suffix.{Suffix}
-use Rattle.stan_syntax.specs.Tree.{tree_of, operation_of, suffix_of}
-use Rattle.stan_syntax.proofs.Layers.{tree_fields, tree-made, form-Chain, form-Post}
-use Rattle.stan_expr_rules.specs.Parse.{first_of, with_operations, with_suffixes}
-
-false_is_not_true : IsTrue false → ⊥
-false_is_not_true h = cc
-
-first_is : (e : Expr) → first_of (tree_of e) ≡ e.first
-first_is e = ap first_of (tree_fields e)
-
-pub operations_made : (b : Bool) (e : Expr) (os : List Operation) → (IsTrue b ↔ (os ≡ [])) → b ≡ false
-    → with_operations (tree_of e) (map operation_of os) ≡ tree_of (roll-Expr (record { first = e.first; form = forms.Chain e os }))
-operations_made b e [] h f = absurd (false_is_not_true (subst IsTrue f (h.1 refl)))
-operations_made b e (o ∷ os) h f = rw (tree-made e.first (forms.Chain e (o ∷ os)), form-Chain e (o ∷ os), first_is e) refl
+use Rattle.stan_syntax.specs.Tree.{tree_of, suffix_of}
+use Rattle.stan_syntax.proofs.Layers.{tree_fields, tree-made, form-Post}
+use Rattle.stan_expr_rules.specs.Parse.{first_of, with_suffixes}
+use Rattle.stan_expr_operators.proofs.MadeLemmas.{false_is_not_true, first_is}
 
 pub suffixes_made : (b : Bool) (e : Expr) (ss : List Suffix) (at : ℕ) → (IsTrue b ↔ (ss ≡ [])) → b ≡ false → model.is_pattern (tree_of e) ≡ false
     → with_suffixes (tree_of e) (map suffix_of ss) at ≡ Some (tree_of (roll-Expr (record { first = e.first; form = forms.Post e ss })), at)

@@ -1,8 +1,6 @@
 //! Expressions, read from the tokens with at most so many levels.
 #![tactic(auto)]
 
-mod classes;
-mod forms;
 mod operands;
 mod operators;
 mod parser;

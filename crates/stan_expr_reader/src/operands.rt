@@ -8,10 +8,10 @@ ghost use Rattle.stan_expr_items.specs.Nests.{Nests};
 ghost use Rattle.stan_expr_rules.specs.Parse as parse;
 ghost use Rattle.stan_syntax.specs.Tree.{tree_of, suffix_of};
 
-use crate::classes::new;
-use crate::forms::form;
 use sqlite_items::{Boxed, Items};
+use stan_expr_forms::form;
 use stan_expr_items::grammar::Grammar;
+use stan_expr_suffixes::{new, suffixes};
 use stan_model_grammar::operators::AssignmentOperator;
 use stan_model_grammar::token::{Token, TokenKind};
 use stan_places::places::{assigning_at, token_at};
@@ -49,7 +49,7 @@ fn suffixed<F: Fn(Global, &[Token], u32, bool, u8, usize) -> Result<(Expr, usize
     requires { Nests grammar.now.depth (F.pre grammar.now.read) (F.post grammar.now.read) }
     ensures { Gives (at tree_of) result (parse.suffixed grammar.now.tokens.now (parse.below grammar.now.tokens.now grammar.now.depth) (tree_of e) place) }
 {
-    let (suffixes, to) = grammar.suffixes(place)?;
+    let (suffixes, to) = suffixes(grammar, place)?;
     with_suffixes(grammar.alloc, e, suffixes, to)
 }
 

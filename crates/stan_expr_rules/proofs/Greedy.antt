@@ -1,5 +1,5 @@
 -- The greedy tree: no part is followed by a token that it could go on with.
-use Rattle.std.proofs.Common.{◌≡◌, ℕ, ◌+◌, ◌-◌, ◌≤◌, ◌<◌, Bool, true, false, List, refl, arith}
+use Rattle.std.proofs.Common.{Option, Some, ◌∙◌, sym, ◌≡◌, ℕ, ◌+◌, ◌-◌, ◌≤◌, ◌<◌, Bool, true, false, List, refl, arith}
 use Rattle.stan_model_grammar.specs.declared.operators.Leaf.{Leaf}
 use Rattle.stan_model_grammar.specs.declared.operators.Leaf.TheVariants as leaves
 use Rattle.stan_model_grammar.specs.declared.operators.Production.{Production}
@@ -23,6 +23,9 @@ Greedy ts = Reads ts (Near ts)
 -- the picked tree of the tokens from one place to another
 abbrev pub Picks : List Token → Tree → ℕ → ℕ → Type 0
 Picks ts = Greedy ts false loosest
+
+pub one_token : (ts : List Token) (at : ℕ) (t u : Token) → Stands ts at t → Stands ts at u → t ≡ u
+one_token ts at t u e f = let g : (let s : Token → Option Token = Some in s t ≡ s u) = sym e ∙ f in cc
 
 pub first_stands : (ts : List Token) (p : Bool) (k : ℕ) (t : Tree) (from to : ℕ) → Greedy ts p k t from to → Stands ts from (first_of t)
 first_stands ts p k (node t f) from to h = h.0

@@ -1,2 +1,4 @@
+pub mod Choices
 pub mod Greedy
 pub mod InsideLemmas
+pub mod Tables

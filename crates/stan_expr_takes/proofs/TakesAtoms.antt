@@ -12,10 +12,9 @@ use Rattle.stan_model_grammar.specs.Expressions.{ItemSort, element, expression, 
 use Rattle.stan_model_grammar.specs.Takes.{may_size, return_size, size, captures_size, steps_size, none, takes, form_takes, items_take, arguments_take, class_takes, steps_take, More}
 use Rattle.stan_expr_rules.proofs.InsideLemmas.{stands_kind, reads_inside, items_go, captures_go, steps_go, may_goes, return_goes, body_inside, class_inside, arguments_go}
 use Rattle.stan_expr_law.proofs.SizeLemmas.{captures_are_size, steps_are_size}
-use Rattle.stan_expr_rules.proofs.Greedy.{J, Greedy}
+use Rattle.stan_expr_rules.proofs.Greedy.{J, Greedy, one_token}
 use Rattle.stan_expr_law.proofs.Spelled.{Free}
 use Rattle.stan_expr_greedy.proofs.SoundTables.{stratum_bounds, leaf_low_small}
-use Rattle.stan_expr_greedy.proofs.Computes.{one_token}
 use Rattle.stan_expr_takes.proofs.TakesLists.{more_before, more_after, more_is, Best, best_map, best_pad, best_cons, best_sized, best_then, same_then}
 use Rattle.stan_expr_takes.proofs.TakesStarts.{clash, may_same, return_same, body_same}
 use Rattle.stan_expr_takes.proofs.TakesKinds.{N, closes, suffix_joins, class_joins}

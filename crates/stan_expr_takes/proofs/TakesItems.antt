@@ -11,9 +11,8 @@ use Rattle.stan_model_grammar.specs.Expressions.{ItemSort, argument, element, ex
 use Rattle.stan_model_grammar.specs.Takes.{may_size, visibility_size, may_type_size, size, items_size, arguments_size, steps_size, takes, items_take, item_takes, default_take, arguments_take, member_takes, steps_take, step_takes, More}
 use Rattle.stan_expr_rules.proofs.InsideLemmas.{stands_kind, reads_inside, items_go, steps_go, step_inside, item_inside, may_goes, member_inside, arguments_go}
 use Rattle.stan_expr_law.proofs.SizeLemmas.{reads_size, items_are_size, arguments_are_size, steps_are_size}
-use Rattle.stan_expr_rules.proofs.Greedy.{Greedy}
+use Rattle.stan_expr_rules.proofs.Greedy.{Greedy, one_token}
 use Rattle.stan_expr_law.proofs.Spelled.{Free}
-use Rattle.stan_expr_greedy.proofs.Computes.{one_token}
 use Rattle.stan_expr_takes.proofs.Cut.{longest_of, binary_some}
 use Rattle.stan_expr_takes.proofs.TakesLists.{more_before, more_after, more_is, Best, best_map, best_cons, best_sized, same_then, best_then}
 use Rattle.stan_expr_takes.proofs.TakesStarts.{clash, no_start, may_same}

@@ -8,12 +8,12 @@ use Rattle.stan_model_grammar.specs.declared.token.TokenKind.{TokenKind}
 use Rattle.stan_model_grammar.specs.declared.token.TokenKind.TheVariants as kinds
 use Rattle.stan_model_grammar.specs.Strata.{kind_at, loosest, binary_stratum, fixity, tighter, joins, names_argument, is_part, is_end, visibility_of}
 use Rattle.stan_model_grammar.specs.Trees.{TypeTree, Tree, no_item, items, Item, Positional, Spread, Named, Element, KeyedElement, Parameter, Captured, Arm, DefaultArm, Steps, no_step, step, Step, Push, Index, Property, Scoped, Call, Increment, Decrement, Operation, Part, Inserted, Further}
-use Rattle.stan_model_grammar.specs.Expressions.{ItemSort, argument, element, expression, parameter, captured, arm, StepSort, suffix, class_suffix, part, operation, further, IsSuffix, is_scoped, arrow, Is, Stands, May, Between, Operates, MayBeVisible, MayBeTyped, Reads, ItemReads, Repeats, StepReads}
+use Rattle.stan_model_grammar.specs.Expressions.{ItemSort, argument, element, expression, parameter, captured, arm, StepSort, suffix, class_suffix, part, operation, further, IsSuffix, arrow, Is, Stands, May, Between, Operates, MayBeVisible, MayBeTyped, Reads, ItemReads, Repeats, StepReads}
 use Rattle.stan_expr_rules.proofs.InsideLemmas.{stands_kind, visibility_goes, may_type_goes, may_goes}
-use Rattle.stan_expr_rules.proofs.Greedy.{J, Near}
+use Rattle.stan_expr_rules.proofs.Greedy.{J, Near, one_token}
 use Rattle.stan_expr_law.proofs.Spelled.{Free}
-use Rattle.stan_expr_greedy.proofs.Computes.{one_token}
 use Rattle.stan_expr_takes.proofs.TakesStarts.{clash, starts, begins, may_same, visibility_same, may_type_same, typed, type_begins}
+use Rattle.stan_expr_rules.proofs.Tables.{arrow_joins, scoped_variable}
 
 -- ---- what closes a list, and what follows an item
 
@@ -153,17 +153,9 @@ arrow_mark : (nullsafe : Bool) → mark (arrow nullsafe) ≡ 2
 arrow_mark true = refl
 arrow_mark false = refl
 
-arrow_joins : (nullsafe : Bool) (next : TokenKind) → joins (arrow nullsafe) next ≡ 3
-arrow_joins true next = refl
-arrow_joins false next = refl
-
 double_joins : (next : TokenKind) → (2 ≤ joins kinds.DoubleColon next) × (joins kinds.DoubleColon next ≤ 4)
 double_joins kinds.Variable = (omega arith, omega arith)
 double_joins _ = (omega arith, omega arith)
-
-pub scoped_variable : (k : TokenKind) → IsTrue (is_scoped class_suffix k) → k ≡ kinds.Variable
-scoped_variable kinds.Variable h = refl
-scoped_variable k h = absurd (true≢false (sym h))
 
 module _ (ts : List Token) where
   module _ (S : ℕ → ℕ → ℕ → Type 0) where

@@ -12,7 +12,7 @@ use Rattle.stan_model_grammar.specs.Strata.{kind_at, leaf_of, prefix_of, binary_
 use Rattle.stan_model_grammar.specs.Trees.{TypeTree, Nullable, Union, Tree, node, Form, Single, Brackets, Array, IsSet, Empty, Exit, New, Match, Closure, Arrow, Text, Post, Prefix, Assignment, Chain, Binary, Conditional, Body, Held, Read}
 use Rattle.stan_model_grammar.specs.Expressions.{IsMatched, Is, May, MayBeVisible, TypeName, Alternatives, Types, MayBeTyped, MayReturn, Reads, Forms, Bodies}
 use Rattle.stan_expr_rules.proofs.InsideLemmas.{stands_kind}
-use Rattle.stan_expr_greedy.proofs.Computes.{one_token}
+use Rattle.stan_expr_rules.proofs.Greedy.{one_token}
 
 -- two kinds that a table tells apart
 pub clash : (f : TokenKind → Bool) (x y : TokenKind) → x ≡ y → f x ≡ true → f y ≡ false → ⊥

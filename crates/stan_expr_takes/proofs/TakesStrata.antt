@@ -19,8 +19,7 @@ use Rattle.stan_expr_rules.proofs.InsideLemmas.{reads_inside, steps_go, step_ins
 use Rattle.stan_expr_law.proofs.SizeLemmas.{reads_size, steps_are_size}
 use Rattle.stan_expr_rules.specs.Parse.{first_of}
 use Rattle.stan_expr_law.proofs.Spelled.{Free}
-use Rattle.stan_expr_greedy.proofs.SoundTables.{stratum_bounds, prefix_bounds}
-use Rattle.stan_expr_greedy.proofs.Computes.{one_token}
+use Rattle.stan_expr_greedy.proofs.SoundTables.{stratum_bounds}
 use Rattle.stan_expr_takes.proofs.Cut.{longest_of, assignment_some}
 use Rattle.stan_expr_takes.proofs.TakesLists.{more_before, more_after, more_is, Best, best_map, best_pad, best_sized, best_then}
 use Rattle.stan_expr_takes.proofs.TakesStarts.{no_start, raised_true}
@@ -28,6 +27,8 @@ use Rattle.stan_expr_takes.proofs.TakesKinds.{N, operation_of}
 use Rattle.stan_expr_takes.proofs.TakesItems.{All, Most, some_same, right_most, operations_most}
 use Rattle.stan_expr_takes.proofs.TakesViews.{own, narrow, tree_split, Rest, nothing, chained, operated, asked, joined, rest_takes, RestReads, rested, tighter_low, first_same}
 use Rattle.stan_expr_takes.proofs.TakesAtoms.{near_weak, free_weak, operand_most}
+use Rattle.stan_expr_rules.proofs.Greedy.{one_token}
+use Rattle.stan_expr_rules.proofs.Tables.{prefix_bounds}
 
 -- ---- tables
 

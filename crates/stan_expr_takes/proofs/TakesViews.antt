@@ -14,10 +14,10 @@ use Rattle.stan_model_grammar.specs.Expressions.{suffix, operation, IsSomeStep, 
 use Rattle.stan_model_grammar.specs.Takes.{size, steps_size, zeros, none, takes, form_takes, steps_take}
 use Rattle.stan_expr_rules.specs.Parse.{first_of}
 use Rattle.stan_expr_greedy.proofs.SoundTables.{stratum_other}
-use Rattle.stan_expr_greedy.proofs.Computes.{one_token}
 use Rattle.stan_expr_takes.proofs.TakesLists.{none_split}
 use Rattle.stan_expr_takes.proofs.TakesStarts.{raised}
 use Rattle.stan_expr_takes.proofs.TakesKinds.{operation_of}
+use Rattle.stan_expr_rules.proofs.Greedy.{one_token}
 
 -- the stratum of a production, behind which its parts take nothing
 abbrev pub own : Form → ℕ

@@ -11,6 +11,7 @@ use Rattle.stan_expr_rules.specs.Places.{after, after_of, same_kind, assigning_a
 use Rattle.std.proofs.lemmas.Option.{slice_get_within}
 use Rattle.stan_model_grammar.specs.declared.token.TokenKind.{TokenKind}
 use Rattle.stan_model_grammar.specs.declared.token.TokenKind.TheVariants as kinds
+use Rattle.stan_expr_rules.proofs.Choices.{nothing_is}
 
 if_some : (b : Bool) (at to : ℕ) → (if b then Some (at + 1) else None) ≡ Some to → to ≡ at + 1
 if_some true at to h = cc
@@ -24,12 +25,9 @@ pub after_inside : (ts : List Token) (kind : TokenKind) (at to : ℕ) → after 
 unfolding after
 after_inside ts kind at to h = after_of_inside ts kind at to (slice_get ts at) refl h
 
-some_apart : {A : Type 0} (x : A) → (let s : Option A = None in s ≡ Some x) → ⊥
-some_apart x h = cc
-
 pub assigning_inside : (ts : List Token) (at : ℕ) (o : AssignmentOperator) → assigning_at ts at ≡ Some o → at < length ts
 unfolding assigning_at
-assigning_inside ts at o h = kind_inside ts at (λ e. some_apart o (sym (ap (λ k. assignment_at k (kind_at ts (at + 1))) e) ∙ h))
+assigning_inside ts at o h = kind_inside ts at (λ e. nothing_is o (sym (ap (λ k. assignment_at k (kind_at ts (at + 1))) e) ∙ h))
 
 pub binary_size_most : (o : BinaryOperator) → binary_size o ≤ 2
 binary_size_most binaries.Elvis = omega arith

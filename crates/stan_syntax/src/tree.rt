@@ -17,11 +17,19 @@ pub enum TypeTree {
 
 /// An expression.
 #[cycle(tree)]
-#[derive(Drop)]
 pub struct Expr {
     /// The token with which it begins.
     pub first: Token,
     pub form: Form,
+}
+
+// Written out, so that letting a tree go is proved here alone, and not in each crate that lets one go.
+impl Drop for Expr {
+    #[cycle(letting_go)]
+    fn drop(self) {
+        let Expr { first: _, form } = self;
+        drop(form);
+    }
 }
 
 /// What an expression is made of, one variant a production, with its parts in order.

@@ -1,7 +1,7 @@
 use Rattle.std.proofs.Common.{◌∙◌, ap, sym, refl, arith, append-nil, ◌∷◌, [], map, subst}
 use Rattle.stan_model_grammar.specs.Files.{no_statement, no_body, ReadsBodies}
 use Rattle.stan_model_grammar.specs.Sites.{bodies_among}
-use Rattle.stan_analyse.specs.Sites.{site_of, held_of}
+use Rattle.stan_sites.specs.Sites.{site_of, held_of}
 use Rattle.stan_analyse.proofs.GrammarLemmas.{statement_after}
 use Rattle.stan_analyse.proofs.ParserLemmas.{has_read_more, no_block, no_brace_past, no_statement_past, body_is, have_read_call, have_read_body, no_bodies, statement_found, no_statement_without_bodies}
 use Rattle.stan_analyse.proofs.parser.+statements.Goals as goal

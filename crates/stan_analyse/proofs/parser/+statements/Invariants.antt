@@ -2,7 +2,7 @@ use Rattle.std.proofs.Common.{◌≡◌, ◌+◌, ◌-◌, ◌*◌, ◌++◌, le
 use Rattle.stan_model_grammar.specs.Files.{Bodies, ReadsBodies}
 use Rattle.stan_model_facts.specs.Facts.{calls_of_bodies}
 use Rattle.stan_model_grammar.specs.Sites.{bodies_among}
-use Rattle.stan_analyse.specs.Sites.{site_of}
+use Rattle.stan_sites.specs.Sites.{site_of}
 use Rattle.stan_analyse.proofs.ParserLemmas.{StatementsSoFar}
 use Rattle.stan_analyse.proofs.parser.+statements.Given as goal
 

@@ -1,6 +1,6 @@
 use Rattle.std.proofs.Common.{◌≡◌, ◌++◌, map, take}
 use Rattle.stan_model_grammar.specs.Sites.{calls_among}
-use Rattle.stan_analyse.specs.Sites.{site_of}
+use Rattle.stan_sites.specs.Sites.{site_of}
 use Rattle.stan_analyse.proofs.parser.push_calls.Given as goal
 
 abbrev pub invariant-loop-site : goal.invariant-loop-site

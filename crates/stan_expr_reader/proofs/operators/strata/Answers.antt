@@ -2,7 +2,7 @@ use Rattle.std.proofs.Common.{◌≡◌, ◌-◌, ◌+◌, arith}
 use Rattle.std.proofs.lemmas.Result.{err_from_is_err_and}
 use Rattle.stan_syntax.specs.Tree.{tree_of}
 use Rattle.stan_expr_rules.specs.Parse.{below}
-use Rattle.stan_expr_reader.proofs.StrataLemmas.{operand_fails, stratum_fails}
+use Rattle.stan_expr_operators.proofs.StrataLemmas.{operand_fails, stratum_fails}
 use Rattle.stan_expr_reader.proofs.operators.strata.Goals as goal
 
 pub returns-in_err-left : goal.returns-in_err-left

@@ -1,8 +1,0 @@
-use Rattle.std.proofs.Common.{◌≡◌, ◌-◌, map}
-use Rattle.stan_syntax.specs.Tree.{suffix_of}
-use Rattle.stan_expr_rules.specs.Parse.{many, class_suffix_at, class_suffixes, below}
-use Rattle.stan_expr_items.proofs.grammar.Grammar.class_suffixes.Given as goal
-
-abbrev pub invariant-loop-turn : goal.invariant-loop-turn
-invariant-loop-turn g l = many (class_suffix_at l.self.tokens.now (below l.self.tokens.now l.self.depth)) (l._turn-end - l._turn) (map suffix_of l.found) l.place
-    ≡ class_suffixes l.self.tokens.now (below l.self.tokens.now l.self.depth) l.from

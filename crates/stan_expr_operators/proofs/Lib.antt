@@ -1,0 +1,3 @@
+pub mod BranchLemmas
+pub mod MadeLemmas
+pub mod StrataLemmas

@@ -1,0 +1,10 @@
+pub mod IndentationLemmas
+pub mod ReadingLemmas
+pub mod BlockLemmas
+pub mod DeeperLemmas
+pub mod Refusals
+pub mod Complete
+pub mod Sound
+pub mod OutlineLemmas
+pub mod ContentLemmas
+pub mod DocumentLemmas

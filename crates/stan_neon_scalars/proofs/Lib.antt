@@ -1,0 +1,5 @@
+pub mod QuoteLemmas
+pub mod NumberLemmas
+pub mod Utf8Lemmas
+pub mod PlainLemmas
+pub mod ItemLemmas

@@ -1,0 +1,15 @@
+pub mod Checks
+pub mod Decided
+pub mod DepthLemmas
+pub mod Exceeds
+pub mod Expressions
+pub mod Front
+pub mod Heights
+pub mod Inside
+pub mod Law
+pub mod Places
+pub mod Reading
+pub mod Runs
+pub mod Starts
+pub mod Tables
+pub mod Words
