@@ -4,3 +4,5 @@ mod Runs
 mod Texts
 mod Preferred
 mod Reading
+mod Seconds
+mod Alternatives
