@@ -1,0 +1,13 @@
+//! Laws of the definitions: each is the contract of a function that does nothing.
+
+ghost use Rattle.stan_neon_laws.specs.Laws.{DoubleQuotesKeepTexts, SingleQuotesKeepTexts};
+
+/// A text that is written between `"`, with `\\`, `\"` and `\n`, is read back.
+pub fn double_quotes_keep_texts()
+    ensures { DoubleQuotesKeepTexts }
+{}
+
+/// A text that is written between `'`, with `''`, is read back.
+pub fn single_quotes_keep_texts()
+    ensures { SingleQuotesKeepTexts }
+{}

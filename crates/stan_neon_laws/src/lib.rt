@@ -1,0 +1,4 @@
+//! Laws of NEON's values.
+#![tactic(auto)]
+
+pub mod laws;
