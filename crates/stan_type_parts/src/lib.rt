@@ -1,0 +1,6 @@
+//! Types of PHP and PHPDoc: their parts, copies and comparisons.
+#![tactic(auto)]
+
+mod part;
+
+pub use part::{Field, Key, Part, PhpType, StringForm};
