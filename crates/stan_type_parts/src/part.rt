@@ -123,7 +123,8 @@ impl PhpType {
 
     /// The parts in order.
     pub fn parts(&self) -> &[Part]
-        ensures { of_parts (map part_of result.now) ≡ self.now }
+        ensures value { of_parts (map part_of result.now) ≡ self.now }
+        ensures normal { IsNormal self.now }
     {
         self.parts.as_slice()
     }
