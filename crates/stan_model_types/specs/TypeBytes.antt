@@ -7,7 +7,7 @@ use Rattle.std.specs.Cmp.Lexicographic.{slice_cmp}
 use Rattle.stan_model_types.specs.Types.{StringForm, Literal, NonEmpty, Plain, Key, IntKey, TextKey, PhpType, never, part_and, Part, Object, Static, Meeting, AnyObject, Template, Array, Shape, Callable, Int, Float, Str, ClassString, ClassStringOf, False, True, Null, Void, ImplicitMixed, ExplicitMixed, Types, no_type, type_and, Fields, no_field, field_and, parts, types, fields}
 
 -- a number of at most 64 bits
-abbrev pub number_bytes : ℕ → List ℕ
+unfoldable pub number_bytes : ℕ → List ℕ
 number_bytes n = to_be_bytes w64 n
 
 -- in two's complement
@@ -68,7 +68,7 @@ abbrev mutual
   fields_bytes AnyObject = []
   fields_bytes (Template owner name bound) = text_bytes owner ++ (text_bytes name ++ (number_bytes (length (parts bound)) ++ all_parts bound))
   fields_bytes (Array key value list non_empty) =
-      number_bytes (length (parts key)) ++ (all_parts key ++ (number_bytes (length (parts value)) ++ (all_parts value ++ (truth_bytes list ++ truth_bytes non_empty))))
+      (number_bytes (length (parts key)) ++ all_parts key) ++ ((number_bytes (length (parts value)) ++ all_parts value) ++ (truth_bytes list ++ truth_bytes non_empty))
   fields_bytes (Shape fs) = number_bytes (length (fields fs)) ++ all_fields fs
   fields_bytes Callable = []
   fields_bytes (Int least greatest) = int_bytes least ++ int_bytes greatest

@@ -1,5 +1,5 @@
 -- Each type inside a type has fewer parts and fields.
-use Rattle.std.specs.Prelude.{ℕ, ◌≤◌, List, [], ◌∷◌, map, Some, None, ◌+◌}
+use Rattle.std.specs.Prelude.{◌≤◌, List, [], ◌∷◌, map, Some, None, ◌+◌}
 use Rattle.std.proofs.Common.{arith}
 use denote.Param.Weighed.{most}
 use Rattle.stan_model_types.specs.Types.{PhpType, of_parts, of_types, of_fields}

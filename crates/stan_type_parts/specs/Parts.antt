@@ -1,5 +1,5 @@
 -- The part of the model that a part of the program stands for.
-use Rattle.std.specs.Prelude.{List, map, Option, Some, None}
+use Rattle.std.specs.Prelude.{map, Option, Some, None}
 use Rattle.stan_base.specs.Name.{name_bytes}
 use Rattle.stan_model_types.specs.Types as model
 use Rattle.stan_type_parts.specs.declared.part.Field.{Field}

@@ -123,7 +123,12 @@ fn copy_object(alloc: Global, name: &Name, arguments: &[PhpType]) -> Result<Part
 }
 
 #[cycle(copies)]
-fn copy_template(alloc: Global, owner: &Name, name: &Name, bound: &PhpType) -> Result<Part, OutOfMemory>
+fn copy_template(
+    alloc: Global,
+    owner: &Name,
+    name: &Name,
+    bound: &PhpType,
+) -> Result<Part, OutOfMemory>
     ensures { IfOk result (λ copy. part_of copy ≡ model.Template (name_bytes owner.now) (name_bytes name.now) bound.now) }
 {
     let owner = owner.copy(alloc)?;
@@ -133,7 +138,13 @@ fn copy_template(alloc: Global, owner: &Name, name: &Name, bound: &PhpType) -> R
 }
 
 #[cycle(copies)]
-fn copy_array(alloc: Global, key: &PhpType, value: &PhpType, is_list: bool, is_non_empty: bool) -> Result<Part, OutOfMemory>
+fn copy_array(
+    alloc: Global,
+    key: &PhpType,
+    value: &PhpType,
+    is_list: bool,
+    is_non_empty: bool,
+) -> Result<Part, OutOfMemory>
     ensures { IfOk result (λ copy. part_of copy ≡ model.Array key.now value.now is_list is_non_empty) }
 {
     let key = copy_type(alloc, key)?;
