@@ -1,5 +1,5 @@
 -- The normal form of a list of parts, and the union of types.
-use Rattle.std.specs.Prelude.{◌≡◌, ℕ, zero, suc, ◌+◌, ℤ, pos, ◌+ℤ◌, int_lt, Bool, true, false, not, ◌&&◌, ◌||◌, nat_le, nat_lt, if◌then◌else◌, List, [], ◌∷◌, ◌++◌, length, map, filter}
+use Rattle.std.specs.Prelude.{Option, None, Some, ◌≡◌, ℕ, zero, suc, ◌+◌, ℤ, pos, ◌+ℤ◌, int_lt, Bool, true, false, not, ◌&&◌, ◌||◌, nat_le, nat_lt, if◌then◌else◌, List, [], ◌∷◌, ◌++◌, length, map, filter}
 use Rattle.std.specs.Int.{int_min, int_max}
 use Rattle.std.specs.List.{list_all, list_any, flat_map}
 use Rattle.std.specs.Ordering.{match_ordering, nat_cmp, int_eq}
@@ -57,15 +57,6 @@ is_key (TextKey text) = is_literal_text text
 abbrev pub are_keys : Fields → Bool
 are_keys no_field = true
 are_keys (field_and k o t fs) = is_key k && are_keys fs
-
--- the type of a key
-abbrev pub key_type : Key → PhpType
-key_type (IntKey k) = of_parts (Int k k ∷ [])
-key_type (TextKey text) = of_parts (Str (literal_form text) ∷ [])
-
-abbrev pub key_types : Fields → List PhpType
-key_types no_field = []
-key_types (field_and k o t fs) = key_type k ∷ key_types fs
 
 abbrev pub value_types : Fields → List PhpType
 value_types no_field = []
@@ -135,6 +126,13 @@ few_literals ps = if nat_lt 32 (length ps) then Str Plain ∷ [] else ps
 abbrev pub string_parts : List Part → List Part
 string_parts ps = few_literals (free_literals ps) ++ filter (λ p. is_plain p || is_non_empty p) ps
 
+-- the parts of the kinds from one number to another
+abbrev pub is_of : ℕ → ℕ → Part → Bool
+is_of from to p = nat_le from (kind_of p) && nat_le (kind_of p) to
+
+abbrev pub of_kinds : ℕ → ℕ → List Part → List Part
+of_kinds from to ps = filter (is_of from to) ps
+
 -- ---- arrays and shapes, over the union of the types inside
 
 -- the keys 0, 1, 2 and so on, from n
@@ -158,7 +156,11 @@ pub record Table : Type 0 where
 abbrev pub table_part : Table → Part
 table_part a = Array a.key a.value a.is_list a.is_filled
 
-module _ (join : PhpType → PhpType → PhpType) where
+module _ (make : List Part → PhpType) where
+  -- the union, where `make` makes the normal form of parts
+  abbrev pub join : PhpType → PhpType → PhpType
+  join t u = make (parts t ++ parts u)
+
   -- types united from left to right
   abbrev pub join_onto : PhpType → List PhpType → PhpType
   join_onto t [] = t
@@ -167,6 +169,15 @@ module _ (join : PhpType → PhpType → PhpType) where
   abbrev pub join_all : List PhpType → PhpType
   join_all [] = never
   join_all (t ∷ ts) = join_onto t ts
+
+  -- the type of a key
+  abbrev pub key_type : Key → PhpType
+  key_type (IntKey k) = make (Int k k ∷ [])
+  key_type (TextKey text) = make (Str (literal_form text) ∷ [])
+
+  abbrev pub key_types : Fields → List PhpType
+  key_types no_field = []
+  key_types (field_and k o t fs) = key_type k ∷ key_types fs
 
   -- a shape as an array: its united keys and values, non-empty where a field isn't optional, a list where its keys count from 0
   abbrev pub shape_table : Fields → Table
@@ -181,19 +192,22 @@ module _ (join : PhpType → PhpType → PhpType) where
   abbrev pub join_tables : Table → Table → Table
   join_tables a b = record { key = join a.key b.key; value = join a.value b.value; is_list = a.is_list && b.is_list; is_filled = a.is_filled && b.is_filled }
 
-  abbrev pub join_tables_onto : Table → List Table → Table
-  join_tables_onto a [] = a
-  join_tables_onto a (b ∷ bs) = join_tables_onto (join_tables a b) bs
+  abbrev pub with_table : Option Table → Table → Option Table
+  with_table None b = Some b
+  with_table (Some a) b = Some (join_tables a b)
 
-  abbrev pub table_parts : List Table → List Part
-  table_parts [] = []
-  table_parts (a ∷ rest) = table_part (join_tables_onto a rest) ∷ []
+  -- all of them as one
+  abbrev pub joined_tables : Option Table → List Table → Option Table
+  joined_tables found [] = found
+  joined_tables found (b ∷ bs) = joined_tables (with_table found b) bs
+
+  abbrev pub table_parts : Option Table → List Part
+  table_parts None = []
+  table_parts (Some a) = table_part a ∷ []
 
   -- the one array or shape: the only one there is, else the array of all
   abbrev pub array_parts : List Part → List Part
-  array_parts [] = []
-  array_parts (p ∷ []) = p ∷ []
-  array_parts (p ∷ q ∷ ps) = table_parts (flat_map tables_of (p ∷ q ∷ ps))
+  array_parts ps = if nat_lt 1 (length (of_kinds 6 7 ps)) then table_parts (joined_tables None (flat_map tables_of ps)) else of_kinds 6 7 ps
 
   -- a part alone: a shape with a key that no shape has is an array without flags, a range without numbers is none
   abbrev pub mended_shape : Fields → Part
@@ -206,44 +220,32 @@ module _ (join : PhpType → PhpType → PhpType) where
   mended (Str form) = Str (mended_form form) ∷ []
   mended p = p ∷ []
 
+  -- parts in order, each kind by its own rule
+  abbrev pub settled_parts : List Part → List Part
+  settled_parts ps =
+      of_kinds 1 5 ps ++ (array_parts ps ++ (of_kinds 8 8 ps ++ (int_parts ps ++ (of_kinds 10 10 ps ++ (string_parts ps ++ of_kinds 12 16 ps)))))
+
+  -- `mixed` stands alone, and the explicit one wins
+  abbrev pub settled : List Part → PhpType
+  settled ps =
+      if list_any (is_of 18 18) ps then explicit_mixed
+      else (if list_any (is_of 17 17) ps then implicit_mixed
+      else limited (of_parts (ordered part_order (settled_parts ps))))
+
 -- ---- all parts together
-
-abbrev pub is_of : ℕ → ℕ → Part → Bool
-is_of from to p = nat_le from (kind_of p) && nat_le (kind_of p) to
-
--- the parts of the kinds from one number to another
-abbrev pub of_kinds : ℕ → ℕ → List Part → List Part
-of_kinds from to ps = filter (is_of from to) ps
-
--- parts in order, each kind by its own rule
-abbrev pub settled_parts : (PhpType → PhpType → PhpType) → List Part → List Part
-settled_parts join ps =
-    of_kinds 1 5 ps ++ (array_parts join (of_kinds 6 7 ps) ++ (of_kinds 8 8 ps ++ (int_parts ps ++ (of_kinds 10 10 ps ++ (string_parts ps ++ of_kinds 12 16 ps)))))
-
--- `mixed` stands alone, and the explicit one wins
-abbrev pub settled : (PhpType → PhpType → PhpType) → List Part → PhpType
-settled join ps =
-    if list_any (is_of 18 18) ps then explicit_mixed
-    else (if list_any (is_of 17 17) ps then implicit_mixed
-    else limited (of_parts (ordered part_order (settled_parts join ps))))
 
 -- the normal form of parts whose inner types are fewer levels deep than the number
 unfoldable pub normal_within : ℕ → List Part → PhpType
 normal_within zero ps = explicit_mixed
-normal_within (suc n) ps =
-    settled (λ t u. normal_within n (parts t ++ parts u)) (ordered part_order (flat_map (mended (λ t u. normal_within n (parts t ++ parts u))) ps))
-
--- the union of types that are fewer levels deep than the number
-abbrev pub union_within : ℕ → PhpType → PhpType → PhpType
-union_within n t u = normal_within n (parts t ++ parts u)
+normal_within (suc n) ps = settled (normal_within n) (ordered part_order (flat_map (mended (normal_within n)) ps))
 
 -- the normal form of parts: a type is at most 64 levels deep, and a part that holds one 65
 unfoldable pub normal : List Part → PhpType
 normal ps = normal_within 66 ps
 
--- a type that is the normal form of some parts
+-- a type that is the normal form of some parts, at some depth inside others
 abbrev pub IsNormal : PhpType → Type 0
-IsNormal t = (ps : List Part) × (normal ps ≡ t)
+IsNormal t = (n : ℕ) × ((ps : List Part) × (normal_within n ps ≡ t))
 
 -- the normal form of a part alone
 abbrev pub one : Part → PhpType
