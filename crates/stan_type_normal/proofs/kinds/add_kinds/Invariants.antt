@@ -1,0 +1,8 @@
+use Rattle.std.proofs.Common.{◌≡◌, map, take}
+use Rattle.stan_model_types.specs.NormalForms.{of_kinds, put_all}
+use Rattle.stan_model_types.specs.TypeBytes.{part_order}
+use Rattle.stan_type_parts.specs.Parts.{part_of}
+use Rattle.stan_type_normal.proofs.kinds.add_kinds.Given as goal
+
+abbrev pub invariant-loop-part : goal.invariant-loop-part
+invariant-loop-part l = map part_of l.out.items ≡ put_all part_order (of_kinds l.from l.to (map part_of (take l.part-index l.parts))) (map part_of l.initial.out.items)
