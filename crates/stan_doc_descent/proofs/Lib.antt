@@ -6,3 +6,4 @@ mod Preferred
 mod Reading
 mod Seconds
 mod Alternatives
+mod FieldLemmas

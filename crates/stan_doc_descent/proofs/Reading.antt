@@ -93,7 +93,7 @@ module _ (ts : List DocToken) (below : Rule → ℕ → Read Forest) (n : ℕ)
   put : (need : Need) (s : Sort) (xs : List Symbol) (at : ℕ) (p : Piece × ℕ) (x y : Forest × ℕ) → IsPiece s at p → Found (rest need s xs) p.1 x → y.0 ≡ standing p.0 x.0 → y.1 ≡ x.1 → Found (Part need s ∷ xs) at y
   put need s xs at p x y i j e f = grown (Part need s ∷ xs) (standing p.0 x.0) at x.1 y e f (p.1, i.0, i.1, j.0) (omega (arith, i.2, j.1))
 
-  many_sound : (s : Sort) (xs : List Symbol) (k : ℕ → Read Forest) → ((b : ℕ) (x : Forest × ℕ) → k b ≡ Some x → Found xs b x) → (m at : ℕ) (y : Forest × ℕ) → many ts below s k m at ≡ Some y → Found (Part Many s ∷ xs) at y
+  pub many_sound : (s : Sort) (xs : List Symbol) (k : ℕ → Read Forest) → ((b : ℕ) (x : Forest × ℕ) → k b ≡ Some x → Found xs b x) → (m at : ℕ) (y : Forest × ℕ) → many ts below s k m at ≡ Some y → Found (Part Many s ∷ xs) at y
   many_sound s xs k ok zero at y h =
       let a = onto_is (k at) none y h in
       let i = ok at a.0 a.1 in
@@ -150,19 +150,19 @@ module _ (ts : List DocToken) (below : Rule → ℕ → Read Forest) (n : ℕ)
     -- ---- symbols
 
     -- symbols that may be empty are read anywhere
-    abbrev Passes : Read Forest → ℕ → Type 0
+    abbrev pub Passes : Read Forest → ℕ → Type 0
     Passes o at = (x : Forest × ℕ) × (o ≡ Some x) × (at ≤ x.1)
 
-    onward : (o : Read Forest) (w : Forest → Forest) (at to : ℕ) → at ≤ to → Passes o to → Passes (o >>= onto w) at
+    pub onward : (o : Read Forest) (w : Forest → Forest) (at to : ℕ) → at ≤ to → Passes o to → Passes (o >>= onto w) at
     onward o w at to le p = ((w p.0.0, p.0.1), rw p.1 refl, omega (arith, le, p.2))
 
-    one_takes : (s : Sort) (at : ℕ) (p : Piece × ℕ) → one ts below s at ≡ Some p → (at < p.1) × (has (begins s) (kind_at ts at) ≡ true)
+    pub one_takes : (s : Sort) (at : ℕ) (p : Piece × ℕ) → one ts below s at ≡ Some p → (at < p.1) × (has (begins s) (kind_at ts at) ≡ true)
     one_takes s at p h =
         let i = one_sound s at p h in
         let j = rule_starts ts p.0.0 p.0.1 at p.1 i.1 in
         (j.0, subst (λ z. has (begins z) (kind_at ts at) ≡ true) i.0 j.1)
 
-    many_passes : (s : Sort) (k : ℕ → Read Forest) → ((b : ℕ) → Passes (k b) b) → (m at : ℕ) → Passes (many ts below s k m at) at
+    pub many_passes : (s : Sort) (k : ℕ → Read Forest) → ((b : ℕ) → Passes (k b) b) → (m at : ℕ) → Passes (many ts below s k m at) at
     many_passes s k ok zero at = onward (k at) none at at (omega arith) (ok at)
     many_passes s k ok (suc m) at = elim (see (one ts below s at)) [
       | inl lack ↦ let p = onward (k at) none at at (omega arith) (ok at) in (p.0, rw lack p.1, p.2)
@@ -171,7 +171,7 @@ module _ (ts : List DocToken) (below : Rule → ℕ → Read Forest) (n : ℕ)
           (p.0, rw w.1 p.1, p.2)
     ]
 
-    passes : (xs : List Symbol) → empty xs ≡ true → (at : ℕ) → Passes (run ts below xs at) at
+    pub passes : (xs : List Symbol) → empty xs ≡ true → (at : ℕ) → Passes (run ts below xs at) at
     passes [] e at = ((nil, at), refl, omega arith)
     passes (Mark kind ∷ xs) e at = absurd cc
     passes (Word ks ∷ xs) e at = absurd cc
@@ -210,7 +210,7 @@ module _ (ts : List DocToken) (below : Rule → ℕ → Read Forest) (n : ℕ)
         settle x is (inr v) = inr (v.0, more v.1)
 
     -- pieces of the same tokens
-    same_size : (s : Sort) (r : Rule) (ps : Forest) (at b : ℕ) (q : Piece × ℕ) → one ts below s at ≡ Some q → Runs ts (symbols r) ps at b → q.1 ≡ b → size q.0.1 ≡ size ps
+    pub same_size : (s : Sort) (r : Rule) (ps : Forest) (at b : ℕ) (q : Piece × ℕ) → one ts below s at ≡ Some q → Runs ts (symbols r) ps at b → q.1 ≡ b → size q.0.1 ≡ size ps
     same_size s r ps at b q is h e = omega (arith, taken ts (symbols q.0.0) q.0.1 at q.1 (one_sound s at q is).1, taken ts (symbols r) ps at b h, e)
 
     -- what goes on behind the others goes on behind all
@@ -258,7 +258,7 @@ module _ (ts : List DocToken) (below : Rule → ℕ → Read Forest) (n : ℕ)
     of_head (Part May s ∷ xs) f at to h = h
     of_head (Part Many s ∷ xs) f at to h = h
 
-    are_items : (s : Sort) (xs : List Symbol) (f : Forest) (at to : ℕ) → Runs ts (Part Many s ∷ xs) f at to → IsItems f
+    pub are_items : (s : Sort) (xs : List Symbol) (f : Forest) (at to : ℕ) → Runs ts (Part Many s ∷ xs) f at to → IsItems f
     are_items s xs (none f) at to h = tt
     are_items s xs (some r ps f) at to h = tt
     are_items s xs f at to h = absurd h

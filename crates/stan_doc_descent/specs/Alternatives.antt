@@ -2,7 +2,7 @@
 use Rattle.std.specs.Prelude.{◌≡◌, ◌⊎◌, ℕ, ◌≤◌, ◌<◌, true, false, List, [], ◌∷◌, length, Some}
 use Rattle.stan_model_doc.specs.declared.token.DocToken.{DocToken}
 use Rattle.stan_model_doc.specs.Tokens.{kind_at, has}
-use Rattle.stan_model_doc.specs.Rules.{Rule, symbols, sort_of, order}
+use Rattle.stan_model_doc.specs.Rules.{Rule, fields, symbols, sort_of, order}
 use Rattle.stan_model_doc.specs.Trees.{Forest}
 use Rattle.stan_model_doc.specs.Grammar.{Runs}
 use Rattle.stan_model_doc.specs.Choices.{Better, left}
@@ -42,3 +42,8 @@ PartsAreRead = (ts : List DocToken) (below : Rule → ℕ → Read Forest) (n : 
 abbrev pub PlainProductionsAreRead : Type 0
 PlainProductionsAreRead = (ts : List DocToken) (below : Rule → ℕ → Read Forest) (n : ℕ) → IsSound ts below n → ReadsProductions ts below n
     → (r : Rule) (ps : Forest) (at b : ℕ) → is_special r ≡ false → height ps ≤ n → b ≤ length ts → Runs ts (symbols r) ps at b → ReadsProduction ts r ps b (run ts below (symbols r) at)
+
+-- So it reads fields, where a comma stands behind the last one or doesn't.
+abbrev pub FieldsAreRead : Type 0
+FieldsAreRead = (ts : List DocToken) (below : Rule → ℕ → Read Forest) (n : ℕ) → IsSound ts below n → ReadsProductions ts below n
+    → (ps : Forest) (at b : ℕ) → height ps ≤ n → b ≤ length ts → Runs ts (symbols fields) ps at b → ReadsProduction ts fields ps b (run ts below (symbols fields) at)

@@ -1,7 +1,7 @@
 //! Laws of the descent: each is the contract of a function that does nothing.
 
 ghost use Rattle.stan_doc_descent.specs.Descent.{DescentIsSound, DescentReadsTheLongest, PlainProductionsAreFine};
-ghost use Rattle.stan_doc_descent.specs.Alternatives.{EarlierAlternativesAreLonger, PartsAreRead, PlainProductionsAreRead};
+ghost use Rattle.stan_doc_descent.specs.Alternatives.{EarlierAlternativesAreLonger, PartsAreRead, PlainProductionsAreRead, FieldsAreRead};
 
 /// What the descent reads of a production is a tree of it, where what it reads of its parts is.
 pub fn descent_is_sound()
@@ -31,4 +31,9 @@ pub fn parts_are_read()
 /// Then each production that passes the test is, one level deeper.
 pub fn plain_productions_are_read()
     ensures { PlainProductionsAreRead }
+{}
+
+/// So are fields, where a comma may stand behind the last one.
+pub fn fields_are_read()
+    ensures { FieldsAreRead }
 {}
