@@ -4,6 +4,7 @@
 #![tactic(auto)]
 
 mod equal;
+pub mod laws;
 mod unite;
 
 pub use equal::{is_equal, order};

@@ -50,7 +50,9 @@ fn count_fields(fields: &[Field]) -> u32
 {
     let mut total: u32 = 0;
     for field in fields {
-        total = total.saturating_add(1).saturating_add(count_type(&field.value));
+        total = total
+            .saturating_add(1)
+            .saturating_add(count_type(&field.value));
     }
     total
 }

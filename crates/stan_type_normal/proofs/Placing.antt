@@ -1,5 +1,5 @@
 -- Where an item goes into a list in order, seen from the place that a walk has come to.
-use Rattle.std.proofs.Common.{◌≡◌, ℕ, List, [], ◌∷◌, ◌++◌, ◌+◌, ◌<◌, ◌≤◌, map, length, get_or, take, drop, suc, refl, ap, sym, subst, ◌∙◌, arith, append_assoc, append-nil, add-one, take-append-drop, drop-cons}
+use Rattle.std.proofs.Common.{◌≡◌, ℕ, List, [], ◌∷◌, ◌++◌, ◌+◌, ◌<◌, ◌≤◌, map, length, get_or, take, drop, suc, refl, ap, sym, ◌∙◌, arith, append_assoc, append-nil, add-one, take-append-drop, drop-cons}
 use Rattle.std.specs.declared.cmp.Ordering.{Ordering}
 use Rattle.std.specs.declared.cmp.Ordering.TheVariants.{Less, Equal, Greater}
 use Rattle.std.specs.Prelude.{insert}

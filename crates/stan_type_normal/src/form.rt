@@ -40,7 +40,12 @@ fn only_part(alloc: Global, part: Part) -> Result<Vec<Part>, OutOfMemory>
 
 /// The normal form of the parts of two lists.
 #[cycle(normal)]
-pub fn normal(alloc: Global, levels: u8, parts: &[Part], others: &[Part]) -> Result<PhpType, OutOfMemory>
+pub fn normal(
+    alloc: Global,
+    levels: u8,
+    parts: &[Part],
+    others: &[Part],
+) -> Result<PhpType, OutOfMemory>
     ensures { IfOk result (λ t. t ≡ model.normal_within levels (map part_of parts.now ++ map part_of others.now)) }
 {
     let made = normal_parts(alloc, levels, parts, others)?;
@@ -48,7 +53,12 @@ pub fn normal(alloc: Global, levels: u8, parts: &[Part], others: &[Part]) -> Res
 }
 
 #[cycle(normal)]
-fn normal_parts(alloc: Global, levels: u8, parts: &[Part], others: &[Part]) -> Result<Vec<Part>, OutOfMemory>
+fn normal_parts(
+    alloc: Global,
+    levels: u8,
+    parts: &[Part],
+    others: &[Part],
+) -> Result<Vec<Part>, OutOfMemory>
     ensures { IfOk result (λ made. types.of_parts (map part_of made.items) ≡ model.normal_within levels (map part_of parts.now ++ map part_of others.now)) }
 {
     if levels == 0 {
@@ -163,7 +173,12 @@ fn join_keys(alloc: Global, inner: u8, fields: &[Field]) -> Result<PhpType, OutO
 }
 
 #[cycle(normal)]
-fn join_more_keys(alloc: Global, inner: u8, t: PhpType, fields: &[Field]) -> Result<PhpType, OutOfMemory>
+fn join_more_keys(
+    alloc: Global,
+    inner: u8,
+    t: PhpType,
+    fields: &[Field],
+) -> Result<PhpType, OutOfMemory>
     ensures { IfOk result (λ joined. joined ≡ model.join_onto (model.normal_within inner) t (model.key_types (model.normal_within inner) (types.of_fields (map field_of fields.now)))) }
 {
     let mut joined = t;
@@ -188,7 +203,12 @@ fn join_values(alloc: Global, inner: u8, fields: &[Field]) -> Result<PhpType, Ou
 }
 
 #[cycle(normal)]
-fn join_more_values(alloc: Global, inner: u8, t: PhpType, fields: &[Field]) -> Result<PhpType, OutOfMemory>
+fn join_more_values(
+    alloc: Global,
+    inner: u8,
+    t: PhpType,
+    fields: &[Field],
+) -> Result<PhpType, OutOfMemory>
     ensures { IfOk result (λ joined. joined ≡ model.join_onto (model.normal_within inner) t (model.value_types (types.of_fields (map field_of fields.now)))) }
 {
     let mut joined = t;
@@ -247,7 +267,12 @@ fn shape_table(alloc: Global, inner: u8, fields: &[Field]) -> Result<Table, OutO
 
 // The table of a part joined to what was found before.
 #[cycle(normal)]
-fn with_part(alloc: Global, inner: u8, found: Option<Table>, part: &Part) -> Result<Option<Table>, OutOfMemory>
+fn with_part(
+    alloc: Global,
+    inner: u8,
+    found: Option<Table>,
+    part: &Part,
+) -> Result<Option<Table>, OutOfMemory>
     ensures { IfOk result (λ joined. option_map table_of joined ≡ model.joined_tables (model.normal_within inner) (option_map table_of found) (model.tables_of (model.normal_within inner) (part_of part.now))) }
 {
     match as_table(alloc, inner, part)? {
@@ -257,7 +282,12 @@ fn with_part(alloc: Global, inner: u8, found: Option<Table>, part: &Part) -> Res
 }
 
 #[cycle(normal)]
-fn with_table(alloc: Global, inner: u8, found: Option<Table>, other: Table) -> Result<Table, OutOfMemory>
+fn with_table(
+    alloc: Global,
+    inner: u8,
+    found: Option<Table>,
+    other: Table,
+) -> Result<Table, OutOfMemory>
     ensures { IfOk result (λ joined. Some (table_of joined) ≡ model.with_table (model.normal_within inner) (option_map table_of found) (table_of other)) }
 {
     match found {
@@ -313,7 +343,12 @@ fn add_table(out: &mut Vec<Part>, table: Option<Table>) -> Result<(), OutOfMemor
 
 // Puts the one array or shape in order: the only one there is, else the array of all.
 #[cycle(normal)]
-fn add_arrays(alloc: Global, inner: u8, out: &mut Vec<Part>, parts: &[Part]) -> Result<(), OutOfMemory>
+fn add_arrays(
+    alloc: Global,
+    inner: u8,
+    out: &mut Vec<Part>,
+    parts: &[Part],
+) -> Result<(), OutOfMemory>
     ensures { OnOk result (map part_of out.new.items ≡ model.put_all part_order (model.array_parts (model.normal_within inner) (map part_of parts.now)) (map part_of out.old.items)) }
 {
     if count_kinds(parts, 6, 7) > 1 {

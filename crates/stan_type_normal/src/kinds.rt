@@ -35,7 +35,13 @@ pub fn count_kinds(parts: &[Part], from: u8, to: u8) -> usize
 }
 
 /// Puts the parts of the kinds from one number to another in order.
-pub fn add_kinds(alloc: Global, out: &mut Vec<Part>, parts: &[Part], from: u8, to: u8) -> Result<(), OutOfMemory>
+pub fn add_kinds(
+    alloc: Global,
+    out: &mut Vec<Part>,
+    parts: &[Part],
+    from: u8,
+    to: u8,
+) -> Result<(), OutOfMemory>
     ensures { OnOk result (map part_of out.new.items ≡ model.put_all part_order (model.of_kinds from to (map part_of parts.now)) (map part_of out.old.items)) }
 {
     for part in parts {

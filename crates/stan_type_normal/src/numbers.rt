@@ -17,7 +17,12 @@ fn is_apart(greatest: i64, least: i64) -> bool
 }
 
 // Appends the range united with ranges that rise and stand apart.
-fn put_range(out: &mut Vec<(i64, i64)>, ranges: &[(i64, i64)], least: i64, greatest: i64) -> Result<(), OutOfMemory>
+fn put_range(
+    out: &mut Vec<(i64, i64)>,
+    ranges: &[(i64, i64)],
+    least: i64,
+    greatest: i64,
+) -> Result<(), OutOfMemory>
     ensures { OnOk result (out.new.items ≡ out.old.items ++ model.put_range least greatest ranges.now) }
 {
     match ranges.split_first() {
@@ -38,7 +43,12 @@ fn put_range(out: &mut Vec<(i64, i64)>, ranges: &[(i64, i64)], least: i64, great
     }
 }
 
-fn push_below(out: &mut Vec<(i64, i64)>, range: (i64, i64), first: (i64, i64), others: &[(i64, i64)]) -> Result<(), OutOfMemory>
+fn push_below(
+    out: &mut Vec<(i64, i64)>,
+    range: (i64, i64),
+    first: (i64, i64),
+    others: &[(i64, i64)],
+) -> Result<(), OutOfMemory>
     ensures { OnOk result (out.new.items ≡ out.old.items ++ range ∷ first ∷ others.now) }
 {
     out.push(range)?;
@@ -48,7 +58,11 @@ fn push_below(out: &mut Vec<(i64, i64)>, range: (i64, i64), first: (i64, i64), o
 }
 
 // The ranges with that of a part united.
-fn with_range(alloc: Global, ranges: Vec<(i64, i64)>, part: &Part) -> Result<Vec<(i64, i64)>, OutOfMemory>
+fn with_range(
+    alloc: Global,
+    ranges: Vec<(i64, i64)>,
+    part: &Part,
+) -> Result<Vec<(i64, i64)>, OutOfMemory>
     ensures { IfOk result (λ united. united.items ≡ model.put_int (part_of part.now) ranges.items) }
 {
     match part {

@@ -38,7 +38,12 @@ pub fn add(out: &mut Vec<Part>, part: Part) -> Result<(), OutOfMemory>
 }
 
 /// Puts a copy of a part at its place, where it is wanted.
-pub fn add_copy(alloc: Global, out: &mut Vec<Part>, part: &Part, wanted: bool) -> Result<(), OutOfMemory>
+pub fn add_copy(
+    alloc: Global,
+    out: &mut Vec<Part>,
+    part: &Part,
+    wanted: bool,
+) -> Result<(), OutOfMemory>
     ensures { OnOk result (map part_of out.new.items ≡ (if wanted then put part_order (part_of part.now) (map part_of out.old.items) else map part_of out.old.items)) }
 {
     if wanted {

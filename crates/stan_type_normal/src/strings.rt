@@ -73,7 +73,13 @@ fn count_literals(plain: bool, non_empty: bool, parts: &[Part]) -> usize
         .count()
 }
 
-fn add_literals(alloc: Global, out: &mut Vec<Part>, parts: &[Part], plain: bool, non_empty: bool) -> Result<(), OutOfMemory>
+fn add_literals(
+    alloc: Global,
+    out: &mut Vec<Part>,
+    parts: &[Part],
+    plain: bool,
+    non_empty: bool,
+) -> Result<(), OutOfMemory>
     ensures { OnOk result (map part_of out.new.items ≡ model.put_all part_order (filter (model.is_free_literal plain non_empty) (map part_of parts.now)) (map part_of out.old.items)) }
 {
     for part in parts {

@@ -1,4 +1,4 @@
-use Rattle.std.proofs.Common.{◌≡◌, ℕ, ◌-◌, List, [], ◌++◌, ap, map, sym, ◌∙◌}
+use Rattle.std.proofs.Common.{◌≡◌, ◌-◌, List, ◌++◌, ap, map, sym, ◌∙◌}
 use Rattle.std.specs.Prelude.{option_map}
 use Rattle.std.specs.List.{flat_map}
 use Rattle.stan_model_types.specs.Types as model
@@ -14,7 +14,7 @@ pub gather-loop-part-preserved : goal.gather-loop-part-preserved
 gather-loop-part-preserved t c =
     c.in_ok-add_mended.ensures
     ∙ put_flat_more part_order (mended (normal_within c.args.inner)) part_of c.args.parts.now c.loop-part.part-index c.part-item.result (map part_of c.args.out.now.items) (map part_of c.loop-part.out.items)
-        c.loop-part-test.true c.part-item.is c.loop-part.invariant
+    c.loop-part-test.true c.part-item.is c.loop-part.invariant
 
 pub join-returns : goal.join-returns
 join-returns t c =
@@ -40,16 +40,16 @@ joined_tables-loop-part-preserved t c =
     c.in_ok-found.ensures
     ∙ join_table (normal_within c.args.inner) c.args.parts.now c.loop-part.part-index c.part-item.result (option_map table_of c.loop-part.found) c.loop-part-test.true c.part-item.is c.loop-part.invariant
 
-pub normal_parts-returns-in_ok-only : goal.normal_parts-returns-in_ok-only
-normal_parts-returns-in_ok-only t c =
+pub normal_parts-returns-then-levels-eq0 : goal.normal_parts-returns-then-levels-eq0
+normal_parts-returns-then-levels-eq0 t c =
     ap model.of_parts c.in_ok-only.ensures ∙ no_level c.args.levels (map part_of c.args.parts.now ++ map part_of c.args.others.now) c.if-levels-eq0.true
 
 pub normal_parts-returns : goal.normal_parts-returns
 normal_parts-returns t c =
     (rw c.as_slice.ensures.value at c.in_ok-made.ensures)
     ∙ one_level c.args.levels (map part_of c.args.parts.now) (map part_of c.args.others.now) (map part_of c.gather.new.out.items) (map part_of c.gather-2.new.out.items) c.if-levels-eq0.false
-        (c.in_ok-gather.ensures ∙ ap (λ qs. put_all part_order (flat_map (mended (normal_within (c.args.levels - 1))) (map part_of c.args.parts.now)) (map part_of qs)) c.in_ok-gathered.ensures.items)
-        c.in_ok-gather-2.ensures
+    (c.in_ok-gather.ensures ∙ ap (λ qs. put_all part_order (flat_map (mended (normal_within (c.args.levels - 1))) (map part_of c.args.parts.now)) (map part_of qs)) c.in_ok-gathered.ensures.items)
+    c.in_ok-gather-2.ensures
 
 pub settle-returns-in_ok-only_explicit : goal.settle-returns-in_ok-only_explicit
 settle-returns-in_ok-only_explicit t c =
@@ -69,7 +69,7 @@ pub add_arrays-returns-in_ok-add_table : goal.add_arrays-returns-in_ok-add_table
 add_arrays-returns-in_ok-add_table t c =
     c.in_ok-add_table.ensures
     ∙ ap (λ ps. put_all part_order ps (map part_of c.args.out.now.items))
-        (arrays_many (normal_within c.args.inner) c.args.parts.now c.count_kinds.result (option_map table_of c.in_ok-table.table) c.count_kinds.ensures c.if-count_kinds-gt1.true c.in_ok-table.ensures)
+    (arrays_many (normal_within c.args.inner) c.args.parts.now c.count_kinds.result (option_map table_of c.in_ok-table.table) c.count_kinds.ensures c.if-count_kinds-gt1.true c.in_ok-table.ensures)
 
 pub add_arrays-returns-in_ok-add_kinds : goal.add_arrays-returns-in_ok-add_kinds
 add_arrays-returns-in_ok-add_kinds t c =

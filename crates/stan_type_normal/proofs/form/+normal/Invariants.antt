@@ -1,5 +1,5 @@
 use Rattle.std.proofs.Common.{◌≡◌, ◌+◌, ◌*◌, map, take}
-use Rattle.std.specs.Prelude.{Option, None, option_map}
+use Rattle.std.specs.Prelude.{None, option_map}
 use Rattle.std.specs.List.{flat_map}
 use Rattle.stan_model_types.specs.NormalForms.{join_onto, joined_tables, key_types, mended, normal_within, put_all, tables_of, value_types}
 use Rattle.stan_model_types.specs.TypeBytes.{part_order}

@@ -9,4 +9,4 @@ use Rattle.stan_type_normal.proofs.strings.add_forms.Goals as goal
 pub loop-part-preserved : goal.loop-part-preserved
 loop-part-preserved c =
     put_more_tested part_order (λ p. is_plain p || is_non_empty p) part_of c.args.parts.now c.loop-part.part-index c.part-item.result (map part_of c.args.out.now.items) (map part_of c.loop-part.out.items) (map part_of c.add_copy.new.out.items)
-        c.is_form.result c.loop-part-test.true c.part-item.is c.is_form.ensures c.loop-part.invariant c.in_ok-add_copy.ensures
+    c.is_form.result c.loop-part-test.true c.part-item.is c.is_form.ensures c.loop-part.invariant c.in_ok-add_copy.ensures
