@@ -29,15 +29,9 @@ module _ (bytes : List ℕ) (at : ℕ) (lt : at < length bytes) where
   stripped-whole b = ap stripped more ∙ stripped-more (take at bytes) byte ∙ rw b (sym more)
 
   module _ (listed : Bool) (before : ℕ) where
-    pub front-closed : closes listed before byte ≡ true → front listed before (drop at bytes) ≡ []
-    front-closed e = rw (from_place bytes at lt, e) refl
-
     pub front-more : closes listed before byte ≡ false → front listed before (drop at bytes) ≡ byte ∷ front listed byte (drop (at + 1) bytes)
     front-more e = rw (from_place bytes at lt, e) refl
 
     pub front-goes-on : (whole : List ℕ) → whole ≡ take at bytes ++ front listed before (drop at bytes) → closes listed before byte ≡ false → whole ≡ take (at + 1) bytes ++ front listed byte (drop (at + 1) bytes)
     front-goes-on whole so_far e =
         so_far ∙ ap (λ t. take at bytes ++ t) (front-more e) ∙ sym (append_assoc (take at bytes) (byte ∷ []) (front listed byte (drop (at + 1) bytes))) ∙ ap (λ t. t ++ front listed byte (drop (at + 1) bytes)) (sym more)
-
-  pub mark-step : (before : ℕ) → has_mark before (drop at bytes) ≡ (((before == 58) && (byte == 32)) || has_mark byte (drop (at + 1) bytes))
-  mark-step before = rw (from_place bytes at lt) refl

@@ -62,9 +62,6 @@ module _ (quote : ℕ) where
     pub step-close : escape quote byte (slice_index bytes (at + 1)) ≡ None → (byte == quote) ≡ true → quoted_behind quote zero (drop at bytes) ≡ Some ([], tail)
     step-close e t = step-other e ∙ rw t refl
 
-    pub step-lost : escape quote byte (slice_index bytes (at + 1)) ≡ None → (byte == quote) ≡ false → ((quote == 34) && (byte == 92)) ≡ true → quoted_behind quote zero (drop at bytes) ≡ None
-    step-lost e f t = step-other e ∙ rw (f, t) refl
-
     pub step-single : escape quote byte (slice_index bytes (at + 1)) ≡ None → (byte == quote) ≡ false → ((quote == 34) && (byte == 92)) ≡ false → quoted_behind quote zero (drop at bytes) ≡ onto byte (quoted_behind quote zero tail)
     step-single e f g = step-other e ∙ rw (f, g) refl
 
@@ -81,9 +78,6 @@ module _ (quote : ℕ) where
 
         pub single_kept : (byte ≡ quote → ⊥) → (lost : Bool) → lost ≡ ((quote == 34) && (byte == 92)) → lost ≡ false → whole ≡ behind (text ++ byte ∷ []) (quoted_behind quote zero tail)
         single_kept n lost l f = so_far ∙ ap (behind text) (step-single none (ne_eqb _ _ n) (sym l ∙ f)) ∙ behind-onto text byte _
-
-        pub lost_whole : (byte ≡ quote → ⊥) → (lost : Bool) → lost ≡ ((quote == 34) && (byte == 92)) → lost ≡ true → None ≡ whole
-        lost_whole n lost l t = sym (so_far ∙ ap (behind text) (step-lost none (ne_eqb _ _ n) (sym l ∙ t)))
 
 pub quoted-is : (bytes : List ℕ) (quote : ℕ) (tested : Bool) → quote ≡ slice_index bytes 0 → tested ≡ is_quote quote → tested ≡ true → quoted_behind quote 0 (drop 1 bytes) ≡ quoted bytes
 unfolding quoted

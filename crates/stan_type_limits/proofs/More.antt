@@ -50,10 +50,6 @@ depth_types ts i t lt e = ap (λ us. types_depth (model.of_types us)) (take_more
 pub depth_fields : (fs : List Field) (i : ℕ) (f : Field) → i < length fs → f ≡ get_or fs i f → fields_depth (model.of_fields (map field_of (take (i + 1) fs))) ≡ max (fields_depth (model.of_fields (map field_of (take i fs)))) (inner_depth f.value)
 depth_fields fs i f lt e = ap (λ gs. fields_depth (model.of_fields gs)) (map_more field_of fs i f lt e) ∙ deeper_fields (map field_of (take i fs)) (field_of f)
 
-pub no_depth : (ps : List Part) → length ps ≡ 0 → inner_depth (model.of_parts (map part_of ps)) ≡ 0
-no_depth [] e = refl
-no_depth (p ∷ ps) e = absurd (omega (arith, e))
-
 pub one_deeper : (ps : List Part) → 0 < length ps → inner_depth (model.of_parts (map part_of ps)) ≡ 1 + type_depth (model.of_parts (map part_of ps))
 one_deeper [] e = absurd (omega (arith, e))
 one_deeper (p ∷ ps) e = refl

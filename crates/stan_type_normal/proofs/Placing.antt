@@ -124,10 +124,3 @@ module _ (name : List ℕ) (names : List Name) (i : ℕ) (x : Name) (lt : i < le
 
   pub name_behind : Greater ≡ slice_cmp nat_cmp name (name_bytes x) → put (slice_cmp nat_cmp) name (map name_bytes names) ≡ take (i + 1) (map name_bytes names) ++ put (slice_cmp nat_cmp) name (drop (i + 1) (map name_bytes names))
   name_behind d = put_behind (slice_cmp nat_cmp) name (map name_bytes names) i (name_bytes x) among_seen (name_order_at Greater d) so
-
-pub name_last : (name : List ℕ) (names : List Name) (i : ℕ) → length names ≤ i → put (slice_cmp nat_cmp) name (map name_bytes names) ≡ take i (map name_bytes names) ++ put (slice_cmp nat_cmp) name (drop i (map name_bytes names))
-    → put (slice_cmp nat_cmp) name (map name_bytes names) ≡ take (length names) (map name_bytes names) ++ name ∷ drop (length names) (map name_bytes names)
-name_last name names i le so =
-    let same = length-map name_bytes names in
-    put_last (slice_cmp nat_cmp) name (map name_bytes names) i (omega (arith, same)) so
-    ∙ ap (λ n. take n (map name_bytes names) ++ name ∷ drop n (map name_bytes names)) same

@@ -21,9 +21,6 @@ then_then Greater b c = refl
 
 -- ---- nothing, and the same
 
-pub decides_nothing : Decides Equal [] []
-decides_nothing x y = refl
-
 pub decides_same : (a : List ℕ) → Decides Equal a a
 decides_same [] x y = refl
 decides_same (b ∷ bs) x y = ap (λ o. ordering_then o (slice_cmp nat_cmp (bs ++ x) (bs ++ y))) (tied_itself nat_cmp_total b) ∙ decides_same bs x y
@@ -38,9 +35,6 @@ decides_less a b c d first x y = rw (append_assoc a c x, append_assoc b d y) (fi
 
 pub decides_greater : (a b c d : List ℕ) → Decides Greater a b → Decides Greater (a ++ c) (b ++ d)
 decides_greater a b c d first x y = rw (append_assoc a c x, append_assoc b d y) (first (c ++ x) (d ++ y))
-
-pub decides_byte : (b c : ℕ) → Decides (nat_cmp b c) (b ∷ []) (c ∷ [])
-decides_byte b c x y = refl
 
 -- ---- numbers
 

@@ -15,10 +15,6 @@ map_push f (y ∷ ys) x = ap (λ zs. f y ∷ zs) (map_push f ys x)
 pub map_more : {A B : Type 0} (f : A → B) (xs : List A) (i : ℕ) (x : A) → i < length xs → x ≡ get_or xs i x → map f (take (i + 1) xs) ≡ map f (take i xs) ++ f x ∷ []
 map_more f xs i x lt e = ap (map f) (take_more xs i x lt) ∙ map_push f (take i xs) (get_or xs i x) ∙ ap (λ y. map f (take i xs) ++ f y ∷ []) (sym e)
 
--- one more item, of which the same is shown
-pub map_pushed : {A B C : Type 0} (f : A → B) (g : C → B) (ys : List C) (xs : List A) (i : ℕ) (x : A) (y : C) → i < length xs → x ≡ get_or xs i x → map g ys ≡ map f (take i xs) → g y ≡ f x → map g (ys ++ y ∷ []) ≡ map f (take (i + 1) xs)
-map_pushed f g ys xs i x y lt e same this = map_push g ys y ∙ ap (λ zs. zs ++ g y ∷ []) same ∙ ap (λ z. map f (take i xs) ++ z ∷ []) this ∙ sym (map_more f xs i x lt e)
-
 module _ where
   part_among : (p : Part) (ps : List Part) (i : ℕ) → i < length ps → part_count (part_of (get_or ps i p)) + 1 ≤ type_count (model.of_parts (map part_of ps))
   part_among p [] i lt = absurd (omega arith)
