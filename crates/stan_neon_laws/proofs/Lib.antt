@@ -1,1 +1,2 @@
+pub mod PlainTextLemmas
 pub mod QuotingLemmas

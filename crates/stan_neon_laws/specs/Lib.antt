@@ -1,2 +1,3 @@
 pub mod Laws
+pub mod PlainTexts
 pub mod Quoting
