@@ -22,15 +22,15 @@ pub items-loop-nodes-preserved : goal.items-loop-nodes-preserved
 items-loop-nodes-preserved t c =
     let taken = rw c.in-Some.is at c.in_ok-line.ensures.taken in
     let lines = rw c.in-Some.is at c.in_ok-line.ensures.lines in
-    let D = dashes_of c.args.self.now in
-    let D1 = dashes_of c.loop-nodes.self in
-    let D2 = dashes_of c.take.new.self in
+    let dashes_at_start = dashes_of c.args.self.now in
+    let dashes_before = dashes_of c.loop-nodes.self in
+    let dashes_after = dashes_of c.take.new.self in
     let p = indentation_of c.args.place in
     let x = line_of c.in-Some.line in
     record {
-      value = items-kept c.args.left D D1 D2 p x (ahead c.loop-nodes.self) (ahead c.take.new.self) (ahead c.item.new.self) c.loop-nodes.invariant.dashes c.in_ok-line.ensures.dashes lines taken c.in_ok-node.ensures.lines
+      value = items-kept c.args.left dashes_at_start dashes_before dashes_after p x (ahead c.loop-nodes.self) (ahead c.take.new.self) (ahead c.item.new.self) c.loop-nodes.invariant.dashes c.in_ok-line.ensures.dashes lines taken c.in_ok-node.ensures.lines
           _ c.loop-nodes.nodes c.push.new.self c.in_ok-node.node c.loop-nodes.invariant.value c.in_ok-node.ensures.value c.in_ok-push.ensures.ok;
-      rest = items-rest c.args.left D D1 D2 p x (ahead c.loop-nodes.self) (ahead c.take.new.self) (ahead c.item.new.self) c.loop-nodes.invariant.dashes c.in_ok-line.ensures.dashes lines taken c.in_ok-node.ensures.lines
+      rest = items-rest c.args.left dashes_at_start dashes_before dashes_after p x (ahead c.loop-nodes.self) (ahead c.take.new.self) (ahead c.item.new.self) c.loop-nodes.invariant.dashes c.in_ok-line.ensures.dashes lines taken c.in_ok-node.ensures.lines
           _ c.loop-nodes.invariant.rest;
       dashes = c.in_ok-node.ensures.dashes ∙ c.in_ok-line.ensures.dashes ∙ c.loop-nodes.invariant.dashes;
     }
@@ -63,15 +63,15 @@ pub pairs-loop-pairs-preserved : goal.pairs-loop-pairs-preserved
 pairs-loop-pairs-preserved t c =
     let taken = rw c.in-Some.is at c.in_ok-line.ensures.taken in
     let lines = rw c.in-Some.is at c.in_ok-line.ensures.lines in
-    let D = dashes_of c.args.self.now in
-    let D1 = dashes_of c.loop-pairs.self in
-    let D2 = dashes_of c.take.new.self in
+    let dashes_at_start = dashes_of c.args.self.now in
+    let dashes_before = dashes_of c.loop-pairs.self in
+    let dashes_after = dashes_of c.take.new.self in
     let p = indentation_of c.args.place in
     let x = line_of c.in-Some.line in
     record {
-      value = pairs-kept c.args.left D D1 D2 p x (ahead c.loop-pairs.self) (ahead c.take.new.self) (ahead c.pair.new.self) c.loop-pairs.invariant.dashes c.in_ok-line.ensures.dashes lines taken c.in_ok-pair.ensures.lines
+      value = pairs-kept c.args.left dashes_at_start dashes_before dashes_after p x (ahead c.loop-pairs.self) (ahead c.take.new.self) (ahead c.pair.new.self) c.loop-pairs.invariant.dashes c.in_ok-line.ensures.dashes lines taken c.in_ok-pair.ensures.lines
           _ c.loop-pairs.pairs c.push.new.self c.in_ok-pair.pair c.loop-pairs.invariant.value c.in_ok-pair.ensures.value c.in_ok-push.ensures.ok;
-      rest = pairs-rest c.args.left D D1 D2 p x (ahead c.loop-pairs.self) (ahead c.take.new.self) (ahead c.pair.new.self) c.loop-pairs.invariant.dashes c.in_ok-line.ensures.dashes lines taken c.in_ok-pair.ensures.lines
+      rest = pairs-rest c.args.left dashes_at_start dashes_before dashes_after p x (ahead c.loop-pairs.self) (ahead c.take.new.self) (ahead c.pair.new.self) c.loop-pairs.invariant.dashes c.in_ok-line.ensures.dashes lines taken c.in_ok-pair.ensures.lines
           _ c.loop-pairs.invariant.rest;
       dashes = c.in_ok-pair.ensures.dashes ∙ c.in_ok-line.ensures.dashes ∙ c.loop-pairs.invariant.dashes;
     }
@@ -96,20 +96,20 @@ pairs-returns-clause-lines t c =
 pub lines-returns-else-is_empty-clause-value : goal.lines-returns-else-is_empty-clause-value
 lines-returns-else-is_empty-clause-value t c =
     let value = c.in_ok-nodes-in-Items.ensures.value in
-    let D = dashes_of c.args.self.now in
+    let dashes_at_start = dashes_of c.args.self.now in
     let p = c.args.opened.indentation.now in
     sym (rolls-List c.in_ok-nodes-in-Items.nodes) ∙ ap Listed value
-    ∙ list-is c.args.left D p (ahead c.args.self.now) (c.requires ∙ ap (λ k. Some (kind_is k)) c.in-Items.is)
+    ∙ list-is c.args.left dashes_at_start p (ahead c.args.self.now) (c.requires ∙ ap (λ k. Some (kind_is k)) c.in-Items.is)
     (λ e. let f : true ≡ false = sym (c.is_empty.ensures.1 (value ∙ e)) ∙ c.if-is_empty.false in cc f)
-    ∙ ap (λ k. node_of (read_lines c.args.left D (kind_is k) p (ahead c.args.self.now)).0) (sym c.in-Items.is)
+    ∙ ap (λ k. node_of (read_lines c.args.left dashes_at_start (kind_is k) p (ahead c.args.self.now)).0) (sym c.in-Items.is)
 
 pub lines-returns-else-is_empty-2-clause-value : goal.lines-returns-else-is_empty-2-clause-value
 lines-returns-else-is_empty-2-clause-value t c =
-    let D = dashes_of c.args.self.now in
+    let dashes_at_start = dashes_of c.args.self.now in
     let p = c.args.opened.indentation.now in
-    let value : c.in_ok-pairs-in-Pairs.pairs ≡ pairs_of (read_lines c.args.left D PairLines p (ahead c.args.self.now)).0 =
-    c.in_ok-pairs-in-Pairs.ensures.value ∙ ap (λ ps. ps ++ pairs_of (read_lines c.args.left D PairLines p (ahead c.args.self.now)).0) c.new.ensures in
+    let value : c.in_ok-pairs-in-Pairs.pairs ≡ pairs_of (read_lines c.args.left dashes_at_start PairLines p (ahead c.args.self.now)).0 =
+    c.in_ok-pairs-in-Pairs.ensures.value ∙ ap (λ ps. ps ++ pairs_of (read_lines c.args.left dashes_at_start PairLines p (ahead c.args.self.now)).0) c.new.ensures in
     sym (rolls-Map c.in_ok-pairs-in-Pairs.pairs) ∙ ap Mapped value
-    ∙ map-is c.args.left D p (ahead c.args.self.now) (c.requires ∙ ap (λ k. Some (kind_is k)) c.in-Pairs.is)
+    ∙ map-is c.args.left dashes_at_start p (ahead c.args.self.now) (c.requires ∙ ap (λ k. Some (kind_is k)) c.in-Pairs.is)
     (λ e. let f : true ≡ false = sym (c.is_empty-in-Pairs.ensures.1 (value ∙ e)) ∙ c.if-is_empty-2.false in cc f)
-    ∙ ap (λ k. node_of (read_lines c.args.left D (kind_is k) p (ahead c.args.self.now)).0) (sym c.in-Pairs.is)
+    ∙ ap (λ k. node_of (read_lines c.args.left dashes_at_start (kind_is k) p (ahead c.args.self.now)).0) (sym c.in-Pairs.is)
