@@ -9,7 +9,7 @@ use Rattle.stan_model_grammar.specs.Words.{begins_variable, begins_name}
 use Rattle.stan_model_grammar.specs.Numbers.{begins_number, number}
 use Rattle.stan_model_doc.specs.declared.token.DocKind.{DocKind}
 use Rattle.stan_model_doc.specs.Tokens.{doc_name, doc_variable, number_kind, begins_doc_number, doc_number, doc_quoted, mark_among, doc_marks, doc_mark, doc_token}
-use Rattle.stan_lexer.proofs.RunEndLemmas.{run_end_rises, run_end_below}
+use Rattle.stan_runs.proofs.RunLemmas.{run_end_rises, run_end_below}
 use Rattle.stan_lexer.proofs.EndLemmas.{stands, byte_stands, number_ends}
 use Rattle.stan_lexer.proofs.TextEndLemmas.{stand_within, single_quoted_ends, double_quoted_ends}
 

@@ -8,7 +8,7 @@ use Rattle.stan_model_grammar.specs.Runs.{run_end, blank_at}
 use Rattle.stan_model_doc.specs.declared.token.DocKind.{DocKind}
 use Rattle.stan_model_doc.specs.declared.token.DocToken.{DocToken}
 use Rattle.stan_model_doc.specs.Tokens.{doc_token, tag_token, AreDocTokens}
-use Rattle.stan_lexer.proofs.RunEndLemmas.{run_end_rises}
+use Rattle.stan_runs.proofs.RunLemmas.{run_end_rises}
 use Rattle.stan_doc_law.specs.Laws.{EveryTagHasTokens, OneTokenList, TokensStandInOrder}
 use Rattle.stan_doc_law.proofs.EndLemmas.{doc_token_ends}
 

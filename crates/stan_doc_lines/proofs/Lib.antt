@@ -1,4 +1,3 @@
-pub mod RunLemmas
 mod TextLemmas
 mod StartLemmas
 mod SpanLemmas

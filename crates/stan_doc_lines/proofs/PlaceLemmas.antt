@@ -8,7 +8,7 @@ use Rattle.std.proofs.lemmas.List.Elements.{filter-append, All-nil, All-cons}
 use Rattle.stan_model_doc.specs.declared.token.TagSpan.{TagSpan}
 use Rattle.stan_model_doc.specs.Comment.{places, begins_tag, tag_places, tag_word_at, tag_span, spans_of, tag_spans, text_byte, text_end}
 use Rattle.stan_doc_lines.specs.Laws.{IsPlaced, PlacesStay}
-use Rattle.stan_doc_lines.proofs.RunLemmas.{run_end_rises, run_end_below, run_end_before}
+use Rattle.stan_runs.proofs.RunLemmas.{run_end_rises, run_end_below, run_end_before}
 
 -- ---- places
 

@@ -1,7 +1,6 @@
 //! The text of a PHPDoc comment and where its tags stand, exactly as `stan_model_doc` defines them (`specs/Comment.antt`).
 #![tactic(auto)]
 
-pub mod bytes;
 pub mod laws;
 mod marks;
 pub mod runs;

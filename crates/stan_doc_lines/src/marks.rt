@@ -3,7 +3,7 @@
 ghost use Rattle.std.specs.Prelude.{◌≡◌, ◌≤◌, length};
 ghost use Rattle.stan_model_doc.specs.Comment.{has_opening, text_start, has_closing, text_end};
 
-use crate::bytes::byte_at;
+use stan_runs::bytes::byte_at;
 
 fn has_opening(comment: &[u8]) -> bool
     ensures { result ≡ has_opening comment.now }

@@ -5,10 +5,11 @@ ghost use Rattle.stan_model_doc.specs.Comment.{tag_places};
 ghost use Rattle.stan_doc_lines.specs.Fronts.{line_behind};
 ghost use Rattle.stan_doc_lines.specs.Spans.{open_span, open_tag, with_tag};
 
-use crate::runs::{Run, run_end};
+use crate::runs::Run;
 use crate::text::front_behind;
 use stan_base::OutOfMemory;
 use stan_model_doc::token::TagSpan;
+use stan_runs::runs::run_end;
 use std::alloc::Global;
 
 // The line of the next byte.

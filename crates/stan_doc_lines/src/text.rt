@@ -4,9 +4,9 @@ ghost use Rattle.std.specs.Prelude.{◌≡◌, ◌-◌, ◌≤◌, ◌<◌, leng
 ghost use Rattle.stan_model_doc.specs.Comment.{text_start, is_line_front, text_byte, doc_text};
 ghost use Rattle.stan_doc_lines.specs.Fronts.{front_behind};
 
-use crate::bytes::is_blank;
 use crate::marks::{text_end, text_start};
 use stan_base::OutOfMemory;
+use stan_runs::bytes::is_blank;
 use std::alloc::Global;
 
 /// Whether nothing but blanks stands in its line before the next byte, where the same holds or doesn't hold before this one.

@@ -1,6 +1,3 @@
-mod EndLemmas
-mod NumberLemmas
-mod QuoteLemmas
 mod SeenLemmas
 mod TableLemmas
 mod TokenLemmas

@@ -10,11 +10,12 @@ use Rattle.stan_model_grammar.specs.declared.token.TokenKind.TheVariants as kind
 use Rattle.stan_model_doc.specs.declared.token.DocKind.{DocKind}
 use Rattle.stan_model_doc.specs.declared.token.DocKind.TheVariants as docs
 use Rattle.stan_model_doc.specs.Tokens.{doc_quoted, text_kind}
-use Rattle.stan_doc_tokens.specs.declared.quotes.Quote.{Quote}
-use Rattle.stan_doc_tokens.specs.declared.quotes.Quote.TheVariants as quotes
+use Rattle.stan_runs.specs.declared.fixed.Quote.{Quote}
+use Rattle.stan_runs.specs.declared.fixed.Quote.TheVariants as quotes
 use Rattle.stan_doc_tokens.specs.declared.quotes.Seen.{Seen}
-use Rattle.stan_doc_tokens.specs.Quotes.{fixed, fixed_from, BeginsNone, AreSeen}
-use Rattle.stan_doc_lines.proofs.RunLemmas.{run_end_passes, run_end_skips, run_end_same, run_end_below}
+use Rattle.stan_runs.specs.FixedBytes.{fixed, fixed_from}
+use Rattle.stan_doc_tokens.specs.Quotes.{BeginsNone, AreSeen}
+use Rattle.stan_runs.proofs.RunLemmas.{run_end_passes, run_end_skips, run_end_same, run_end_below}
 
 module _ (text : List ℕ) where
   pub later : (byte a b stop : ℕ) → BeginsNone text byte a stop → a ≤ b → BeginsNone text byte b stop

@@ -1,5 +1,5 @@
 -- The steps of a reading of tokens.
-use Rattle.std.proofs.Common.{◌≡◌, ℕ, ◌<◌, ◌≤◌, List, [], ◌∷◌, ◌++◌, length, refl, subst, append_assoc, append-nil}
+use Rattle.std.proofs.Common.{◌≡◌, ℕ, ◌<◌, ◌≤◌, List, [], ◌∷◌, ◌++◌, length, subst, append_assoc, append-nil}
 use Rattle.stan_model_grammar.specs.Runs.{run_end, blank_at}
 use Rattle.stan_model_doc.specs.declared.token.DocToken.{DocToken}
 use Rattle.stan_model_doc.specs.Tokens.{doc_token}

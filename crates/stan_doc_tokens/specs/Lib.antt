@@ -1,5 +1,4 @@
 -- ---- what functions inside promise each other
-pub mod Digits
 pub mod Quotes
 pub mod Reading
 pub mod Tables

@@ -3,7 +3,6 @@
 
 mod literals;
 mod marks;
-mod numbers;
 mod quotes;
 mod tags;
 mod tokens;

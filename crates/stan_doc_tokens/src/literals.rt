@@ -5,11 +5,11 @@ ghost use Rattle.stan_model_grammar.specs.Numbers.{begins_number};
 ghost use Rattle.stan_model_doc.specs.Tokens.{number_kind, begins_doc_number, doc_number, doc_quoted};
 ghost use Rattle.stan_doc_tokens.specs.Quotes.{AreSeen};
 
-use crate::numbers::{begins_number, number};
 use crate::quotes::{Seen, double_text, single_text};
-use stan_doc_lines::bytes::byte_at;
 use stan_model_doc::token::DocKind;
 use stan_model_grammar::token::TokenKind;
+use stan_runs::bytes::byte_at;
+use stan_runs::numbers::{begins_number, number};
 
 fn number_kind(kind: TokenKind) -> DocKind
     ensures { result ≡ number_kind kind }

@@ -5,8 +5,8 @@ ghost use Rattle.std.specs.List.{starts_with};
 ghost use Rattle.stan_model_doc.specs.Tokens.{kind_of_word, mark_among, doc_mark};
 ghost use Rattle.stan_doc_tokens.specs.Tables.{row_of};
 
-use stan_doc_lines::bytes::byte_at;
 use stan_model_doc::token::{DOC_MARKS, DocKind};
+use stan_runs::bytes::byte_at;
 
 // Whether bytes begin with a mark. Most marks of a table differ in the first byte.
 #[tactic(auto, using(crate::proofs::TableLemmas::starts_with_apart))]

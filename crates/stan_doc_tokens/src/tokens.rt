@@ -10,8 +10,9 @@ use crate::marks::doc_mark;
 use crate::quotes::Seen;
 use crate::words::{begins_name, begins_variable, doc_name, doc_variable};
 use stan_base::OutOfMemory;
-use stan_doc_lines::runs::{Run, run_end};
+use stan_doc_lines::runs::Run;
 use stan_model_doc::token::{DocKind, DocToken};
+use stan_runs::runs::run_end;
 
 // The token that begins at a place where no blank stands, by its kind and its end.
 #[tactic(auto, using(crate::proofs::SeenLemmas::seen_later), unfolding(stan_model_doc::specs::Tokens::doc_token))]

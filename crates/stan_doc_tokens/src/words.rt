@@ -7,9 +7,10 @@ ghost use Rattle.stan_model_doc.specs.Tokens.{word_kind, name_kind, doc_name, do
 ghost use Rattle.stan_doc_tokens.specs.Tables.{row_of, kind_of_folded};
 
 use crate::marks::kind_of_word;
-use stan_doc_lines::bytes::{begins_identifier, byte_at};
-use stan_doc_lines::runs::{Run, run_end};
+use stan_doc_lines::runs::Run;
 use stan_model_doc::token::{DocKind, EXACT_WORDS, FOLDED_WORDS};
+use stan_runs::bytes::{begins_identifier, byte_at};
+use stan_runs::runs::run_end;
 
 // The kind that the rows give a word, whose case is passed over, or another one.
 fn kind_of_folded(rows: &[(&str, DocKind)], other: DocKind, word: &[u8]) -> DocKind

@@ -7,7 +7,7 @@ use Rattle.stan_model_grammar.specs.declared.token.TokenKind.{TokenKind}
 use Rattle.stan_model_grammar.specs.Runs.{run_end, is_digit, is_octal_digit, is_binary_digit, is_hexadecimal_digit, digit_at}
 use Rattle.stan_model_grammar.specs.Words.{variable, name}
 use Rattle.stan_model_grammar.specs.Numbers.{has_prefix, has_hexadecimal_prefix, has_binary_prefix, integer, fraction_end, exponent_end, begins_number, number}
-use Rattle.stan_lexer.proofs.RunEndLemmas.{run_end_rises, run_end_below, run_end_begins}
+use Rattle.stan_runs.proofs.RunLemmas.{run_end_rises, run_end_below, run_end_begins}
 
 -- It lies from a place on, and within the source.
 pub record Reaches (source : List ℕ) (from to : ℕ) : Type 0 where

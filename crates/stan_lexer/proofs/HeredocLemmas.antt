@@ -4,7 +4,7 @@ use Rattle.std.specs.Prelude.{◌==◌, ◌||◌, ◌&&◌, not, slice_index, Is
 use Rattle.std.proofs.lemmas.Bool.{cases_lt, false≢true, ne_eqb}
 use Rattle.stan_model_grammar.specs.Runs.{run_end, line_at}
 use Rattle.stan_model_grammar.specs.Heredocs.{line_closes, closes, body_end}
-use Rattle.stan_lexer.proofs.RunEndLemmas.{run_end_past, run_end_stops, run_end_skips, run_end_passes, run_end_fails, run_end_rises}
+use Rattle.stan_runs.proofs.RunLemmas.{run_end_past, run_end_stops, run_end_skips, run_end_passes, run_end_fails, run_end_rises}
 
 module _ (source label : List ℕ) (body : ℕ) where
   -- A line begins there.

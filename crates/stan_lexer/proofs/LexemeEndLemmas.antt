@@ -12,7 +12,7 @@ use Rattle.stan_model_grammar.specs.Words.{kind_among, begins_variable, begins_n
 use Rattle.stan_model_grammar.specs.Numbers.{begins_number}
 use Rattle.stan_model_grammar.specs.Marks.{begins_remark, remark, begins_comment, comment, casts, is_identifier, parenthesis, begins_closing, closing, mark_among, marks, mark}
 use Rattle.stan_model_grammar.specs.Tokens.{is_in_text, is_in_insertion, is_in_bracket, begins_literal, literal, begins_attribute, begins_bound, bound, code_token, next_start, lexeme}
-use Rattle.stan_lexer.proofs.RunEndLemmas.{run_end_rises}
+use Rattle.stan_runs.proofs.RunLemmas.{run_end_rises}
 use Rattle.stan_lexer.proofs.TableLemmas.{mark_rises}
 use Rattle.stan_lexer.proofs.EndLemmas.{Reaches, Ends, byte_stands, either_reaches, either_ends, run_reaches, ends_by, byte_ends, run_ends, variable_ends, name_ends, number_ends}
 use Rattle.stan_lexer.proofs.TextEndLemmas.{stand_within, single_quoted_ends, double_quoted_ends, text_token_ends, heredoc_ends}

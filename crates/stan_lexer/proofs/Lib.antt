@@ -1,14 +1,10 @@
-pub mod RunLemmas
 pub mod TableLemmas
-pub mod NumberLemmas
-pub mod QuoteLemmas
 pub mod HeredocLemmas
 pub mod LexemeLemmas
 pub mod CutLemmas
 pub mod ValueLemmas
 pub mod MarkLemmas
 pub mod OrderLemmas
-pub mod RunEndLemmas
 pub mod TokenLemmas
 pub mod EndLemmas
 pub mod TextEndLemmas

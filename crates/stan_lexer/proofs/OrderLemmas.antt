@@ -10,7 +10,7 @@ use Rattle.stan_model_grammar.specs.declared.token.TokenKind.{TokenKind}
 use Rattle.stan_model_grammar.specs.declared.token.TokenKind.TheVariants as kinds
 use Rattle.stan_model_grammar.specs.Runs.{run_end, blank_at}
 use Rattle.stan_model_grammar.specs.Tokens.{is_in_text, top, open_behind, next_start, is_bad, is_comment, is_attribute_start, is_attribute_end, renames, renamed, as_kind, spanning, AreLexemes, joined, open_texts, IsOpenText, IsCut, has_opening, opening_start, AreTokens}
-use Rattle.stan_lexer.proofs.RunEndLemmas.{run_end_rises}
+use Rattle.stan_runs.proofs.RunLemmas.{run_end_rises}
 
 -- From a place on, each of these ends behind its beginning and within a length, and the next one begins there or later.
 abbrev pub Rise : ℕ → ℕ → List Token → Type 0

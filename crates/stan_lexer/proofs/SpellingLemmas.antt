@@ -6,7 +6,7 @@ use Rattle.stan_model_grammar.specs.declared.token.TokenKind.{TokenKind}
 use Rattle.stan_model_grammar.specs.Runs.{run_end, is_digit, is_octal_digit, is_binary_digit, is_hexadecimal_digit, digit_at}
 use Rattle.stan_model_grammar.specs.Numbers.{has_hexadecimal_prefix, has_binary_prefix, integer, fraction_end, exponent_end, number}
 use Rattle.stan_lexer.specs.Spellings.{AreDigits, IsLetter, HasPoint, PointBehind, PointBetween, PointBefore, IsExponent, Unsigned, Signed, IsNumber, Decimal, Octal, Hexadecimal, Binary, Float, Exponent}
-use Rattle.stan_lexer.proofs.RunEndLemmas.{run_end_rises, run_end_below, run_end_stops, run_end_skips, run_end_goes_on}
+use Rattle.stan_runs.proofs.RunLemmas.{run_end_rises, run_end_below, run_end_stops, run_end_skips, run_end_goes_on}
 use Rattle.stan_lexer.proofs.EndLemmas.{fraction_reaches, exponent_reaches}
 
 or_right : (a b : Bool) → b ≡ true → (a || b) ≡ true

@@ -10,7 +10,7 @@ use Rattle.stan_model_grammar.specs.Runs.{run_end, space_at, word_at}
 use Rattle.stan_model_grammar.specs.Words.{begins_variable}
 use Rattle.stan_model_grammar.specs.Texts.{begins_insertion, index_end, has_index, has_property, inserted, single_quoted_at, single_quoted, double_quoted_at, double_quoted, piece, text_token}
 use Rattle.stan_model_grammar.specs.Heredocs.{is_quote, head_blanks_end, label_quote, label_start, label_end, label, head_end, has_line_end, begins_heredoc, body_start, line_closes, closes, body_end, is_fixed, heredoc}
-use Rattle.stan_lexer.proofs.RunEndLemmas.{run_end_rises, run_end_below, run_end_fails}
+use Rattle.stan_runs.proofs.RunLemmas.{run_end_rises, run_end_below, run_end_fails}
 use Rattle.stan_lexer.proofs.EndLemmas.{Ends, last_of_three, stands, byte_stands, either_ends, run_reaches, ends_by, byte_ends}
 
 middle_of_three : (a b c : Bool) → (a && b && c) ≡ true → b ≡ true

@@ -5,11 +5,11 @@ ghost use Rattle.stan_model_grammar.specs.Runs.{is_octal_digit, is_hexadecimal_d
 ghost use Rattle.stan_model_grammar.specs.Texts.{is_code_point};
 ghost use Rattle.stan_model_grammar.specs.Values.{utf8, letter_escape, octal_escape, hexadecimal_escape, code_point_escape, begins_hexadecimal, begins_code_point, escape, resolved, single_resolved, unindented};
 
-use crate::bytes::{byte_at, is_hexadecimal_digit, is_octal_digit, is_space};
-use crate::numbers::{digit_value, value};
-use crate::quotes::is_code_point;
-use crate::runs::{Run, run_end};
 use stan_base::OutOfMemory;
+use stan_runs::bytes::{byte_at, is_hexadecimal_digit, is_octal_digit, is_space};
+use stan_runs::fixed::is_code_point;
+use stan_runs::numbers::{digit_value, value};
+use stan_runs::runs::{HexadecimalDigits, run_end};
 use std::alloc::Global;
 
 // Adds the bytes of a code point in UTF-8.
@@ -110,7 +110,7 @@ fn push_code_point(out: &mut Vec<u8>, rest: &[u8]) -> Result<usize, OutOfMemory>
     ensures value { IfOk result (λ used. (out.new.items ≡ out.old.items ++ (code_point_escape rest.now).0) × (used ≡ (code_point_escape rest.now).1)) }
     ensures within { IfOk result (λ used. used ≤ length rest.now) }
 {
-    let to = run_end(rest, Run::CodePoint, 2);
+    let to = run_end(rest, HexadecimalDigits, 2);
     let _close = byte_at(rest, to);
     push_utf8(out, code_point(&rest[2..to]))?;
     Ok(to + 1)

@@ -5,10 +5,11 @@ ghost use Rattle.std.specs.Prelude.{◌==◌};
 ghost use Rattle.stan_model_grammar.specs.Runs.{run_end, space_at, line_at};
 ghost use Rattle.stan_model_grammar.specs.Heredocs.{is_quote, head_blanks_end, label_quote, label_start, label_end, label, head_end, has_line_end, begins_heredoc, body_start, line_closes, closes, body_end, is_fixed, heredoc};
 
-use crate::bytes::{begins_identifier, byte_at, continues_identifier};
-use crate::quotes::{Quote, fixed_end};
-use crate::runs::{Run, run_end};
+use crate::runs::Run;
 use stan_model_grammar::token::TokenKind;
+use stan_runs::bytes::{begins_identifier, byte_at, continues_identifier};
+use stan_runs::fixed::{Quote, fixed_end};
+use stan_runs::runs::run_end;
 
 fn is_quote(byte: u8) -> bool
     ensures { result ≡ is_quote byte }

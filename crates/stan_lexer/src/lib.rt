@@ -1,8 +1,6 @@
 //! The tokens of PHP source, exactly those that `stan_model_grammar` defines (`specs/Tokens.antt`).
 #![tactic(auto)]
 
-mod bases;
-mod bytes;
 mod cut;
 mod escapes;
 mod heredocs;
@@ -11,7 +9,6 @@ pub mod laws;
 mod lexemes;
 mod lexer;
 mod marks;
-mod numbers;
 mod opening;
 mod parts;
 mod quotes;

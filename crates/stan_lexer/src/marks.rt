@@ -5,10 +5,11 @@ ghost use Rattle.std.specs.List.{starts_with};
 ghost use Rattle.stan_model_grammar.specs.Marks.{begins_remark, begins_comment, comment, is_identifier, parenthesis, begins_closing, closing, mark_among, mark};
 ghost use Rattle.stan_lexer.specs.Tables.{row_of};
 
-use crate::bytes::{byte_at, is_blank};
-use crate::runs::{Run, run_end};
+use crate::runs::Run;
 use crate::words::kind_among;
 use stan_model_grammar::token::{CASTS, MARKS, TokenKind};
+use stan_runs::bytes::{byte_at, is_blank};
+use stan_runs::runs::run_end;
 
 pub fn begins_remark(source: &[u8], at: usize) -> bool
     requires { at < 2 ^ 63 }

@@ -3,8 +3,9 @@
 ghost use Rattle.std.specs.Prelude.{◌≡◌, ◌+◌, ◌≤◌, ◌<◌, ◌^◌, length, max, IsTrue};
 ghost use Rattle.stan_model_grammar.specs.Tokens.{opening_start, has_opening};
 
-use crate::bytes::{byte_at, is_blank};
-use crate::runs::{Run, run_end};
+use crate::runs::Run;
+use stan_runs::bytes::{byte_at, is_blank};
+use stan_runs::runs::run_end;
 
 /// The place behind a first line that begins with `#!`.
 #[tactic(auto, unfolding(stan_model_grammar::specs::Tokens::opening_start))]

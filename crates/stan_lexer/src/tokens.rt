@@ -3,16 +3,17 @@
 ghost use Rattle.std.specs.Prelude.{◌≡◌, ◌+◌, ◌≤◌, ◌<◌, ◌^◌, length, IsTrue, slice_index, Option};
 ghost use Rattle.stan_model_grammar.specs.Tokens.{is_in_text, is_in_insertion, is_in_brace, is_in_bracket, begins_literal, literal, begins_attribute, begins_bound, bound, code_token, next_start, lexeme};
 
-use crate::bytes::byte_at;
 use crate::heredocs::{begins_heredoc, heredoc};
 use crate::marks::{
     begins_closing, begins_comment, begins_remark, closing, comment, mark, parenthesis,
 };
-use crate::numbers::{begins_number, number};
 use crate::quotes::{double_quoted, single_quoted, text_token};
-use crate::runs::{Run, byte_and_run, run_end};
+use crate::runs::{Run, byte_and_run};
 use crate::words::{begins_name, begins_variable, name};
 use stan_model_grammar::token::{Opening, TokenKind};
+use stan_runs::bytes::byte_at;
+use stan_runs::numbers::{begins_number, number};
+use stan_runs::runs::run_end;
 
 pub fn is_in_text(top: Option<Opening>) -> bool
     ensures { result ≡ is_in_text top }

@@ -3,14 +3,15 @@
 ghost use Rattle.std.specs.Prelude.{◌≡◌, ◌≤◌, ◌<◌, length, MatchOption, IfOk};
 ghost use Rattle.stan_model_grammar.specs.Values.{integer_value, between_quotes, without_line_end, body_lines, text_value};
 
-use crate::bases::Base;
-use crate::bytes::byte_at;
 use crate::escapes::{resolved, single_resolved, unindented};
 use crate::heredocs::{begins_heredoc, body_end, body_start, label_end, label_start};
-use crate::numbers::{has_prefix, value};
-use crate::runs::{Run, run_end};
+use crate::runs::Run;
 use stan_base::OutOfMemory;
 use stan_model_grammar::token::TokenKind;
+use stan_runs::bases::Base;
+use stan_runs::bytes::byte_at;
+use stan_runs::numbers::{has_prefix, value};
+use stan_runs::runs::run_end;
 use std::alloc::Global;
 
 /// The value of the bytes of an integer. None past 9223372036854775807: they are a float.

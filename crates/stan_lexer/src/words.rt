@@ -4,10 +4,11 @@ ghost use Rattle.std.specs.Prelude.{◌≡◌, ◌≤◌, ◌<◌, ◌^◌, leng
 ghost use Rattle.stan_model_grammar.specs.Words.{kind_among, name_kind, begins_variable, begins_name, name};
 ghost use Rattle.stan_lexer.specs.Tables.{row_of};
 
-use crate::bytes::{begins_identifier, byte_at};
-use crate::runs::{Run, run_end};
+use crate::runs::Run;
 use stan_base::begins_relative;
 use stan_model_grammar::token::{KEYWORDS, TokenKind};
+use stan_runs::bytes::{begins_identifier, byte_at};
+use stan_runs::runs::run_end;
 
 /// The kind that the rows give a word, which is compared without case, or that of an identifier.
 pub fn kind_among(rows: &[(&str, TokenKind)], word: &[u8]) -> TokenKind

@@ -1,0 +1,3 @@
+mod FixedLemmas
+pub mod NumberLemmas
+pub mod RunLemmas

@@ -1,0 +1,3 @@
+-- ---- what functions inside promise each other
+pub mod Bases
+pub mod FixedBytes
