@@ -1,2 +1,1 @@
-mod CaseLemmas
 mod PlayLemmas

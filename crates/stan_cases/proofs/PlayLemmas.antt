@@ -6,7 +6,7 @@ use Rattle.std.proofs.lemmas.Slice.Zip.{AllZip-map}
 use Rattle.std.specs.declared.alloc.Global.{Global}
 use Rattle.std.specs.Fmt.{format_spec, styled_decimal, padded_integral, char_count}
 use Rattle.std.specs.List.{AllZip, range_with_len}
-use Rattle.stan_cases.specs.declared.case.Files.{Files}
+use Rattle.stan_case_text.specs.declared.case.Files.{Files}
 use Rattle.stan_cases.specs.Played.{numbered_path, files_at, single_files}
 use Rattle.stan_outside.specs.Memory.{file_of}
 

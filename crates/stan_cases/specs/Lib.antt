@@ -1,4 +1,2 @@
-pub mod Cases
 pub mod Played
-pub mod Unread
 pub mod Wanted

@@ -4,10 +4,10 @@ use Rattle.std.specs.FinMap as finite
 use Rattle.std.specs.List.{flat_map, range_with_len}
 use Rattle.stan_outside.specs.Contents.{Contents}
 use Rattle.stan_cli.specs.Project.{sources_of, most_files, excess_from}
-use Rattle.stan_cases.specs.declared.case.Case.{Case}
-use Rattle.stan_cases.specs.declared.case.Files.{Files}
-use Rattle.stan_cases.specs.declared.case.Place.{Place}
-use Rattle.stan_cases.specs.declared.case.Place.TheVariants.{At, Numbered}
+use Rattle.stan_case_text.specs.declared.case.Case.{Case}
+use Rattle.stan_case_text.specs.declared.case.Files.{Files}
+use Rattle.stan_case_text.specs.declared.case.Place.{Place}
+use Rattle.stan_case_text.specs.declared.case.Place.TheVariants.{At, Numbered}
 use Rattle.stan_cases.specs.Wanted.{IsAsWanted}
 use Rattle.stan_cli.specs.declared.outcome.Outcome.{Outcome}
 use Rattle.stan_cli.specs.declared.refusal.Refusal.TheVariants as refusals

@@ -1,6 +1,6 @@
 -- What a case wants of a run.
 use Rattle.std.specs.Prelude.{◌≡◌, ℕ, List, ◌++◌, IfSome, string_bytes, decimal, codes}
-use Rattle.stan_cases.specs.declared.case.Wanted.{Wanted}
+use Rattle.stan_case_text.specs.declared.case.Wanted.{Wanted}
 use Rattle.stan_cli.specs.declared.outcome.Outcome.{Outcome}
 use Rattle.stan_cli.specs.declared.outcome.Tally.{Tally}
 use Rattle.stan_cli.specs.About.{about}

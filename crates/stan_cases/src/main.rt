@@ -2,13 +2,10 @@
 //! and what was wanted. The last line counts both. The status is 0 where no case is wrong, else 1.
 #![tactic(auto)]
 
-mod case;
 mod play;
-mod reading;
 
-use case::Case;
 use play::what_is_wrong;
-use reading::read_cases;
+use stan_case_text::{Case, read_cases};
 use std::process::ExitCode;
 use std::rt::Files;
 use std::{fs, io};

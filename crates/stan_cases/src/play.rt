@@ -8,8 +8,8 @@ ghost use Rattle.stan_outside.specs.Memory.{file_of};
 ghost use Rattle.stan_outside.specs.MemorySink.{sink_bytes, sink_calls};
 ghost use Rattle.stan_outside.specs.MemoryTree.{tree_calls};
 
-use crate::case::{Case, Files, Place, Wanted};
 use stan_base::OutOfMemory;
+use stan_case_text::{Case, Files, Place, Wanted};
 use stan_cli::{Outcome, Tally, run_alone};
 use stan_outside::{MemorySink, MemoryTree, are_files};
 use std::alloc::{AllocError, Global};

@@ -4,7 +4,6 @@
 mod names;
 mod outside;
 mod reading;
-mod slow;
 mod tokens;
 mod trees;
 

@@ -1,10 +1,10 @@
 //! Tokens, and what they mean, as text.
 
-use crate::slow::compared;
 use stan_base::OutOfMemory;
 use stan_lexer::{code_tokens, comments, integer_value, lex, text_value};
 use stan_model_grammar::token::{Token, TokenKind};
 use stan_rows::{parts, plain, text_of, words};
+use stan_slow_lexer::compared;
 use std::alloc::Global;
 
 // The tokens of a source, or none where it is too large to be read.

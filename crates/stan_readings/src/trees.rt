@@ -1,14 +1,11 @@
 //! What is read of expressions, as text.
 
-mod marks;
-mod shown;
-
 use crate::tokens::code_of;
-use shown::Printer;
 use stan_base::OutOfMemory;
 use stan_expr::{Parsed, expression};
 use stan_model_grammar::token::Token;
 use stan_rows::{number, plain};
+use stan_shown_trees::Printer;
 use stan_syntax::{Expr, Form, ends_program};
 use std::alloc::Global;
 

@@ -8,8 +8,8 @@ use Rattle.std.proofs.lemmas.Str.Pattern.{starts_text}
 use Rattle.std.specs.List.{filter, enumerate_from}
 use Rattle.std.specs.Prelude.{OnOk, string_bytes}
 use Rattle.std.specs.Str.Pattern.{FindsTextPrefix}
-use Rattle.stan_cases.specs.declared.case.Case.{Case}
-use Rattle.stan_cases.specs.Cases.{begins_case, name_of, names_begun}
+use Rattle.stan_case_text.specs.declared.case.Case.{Case}
+use Rattle.stan_case_text.specs.Cases.{begins_case, name_of, names_begun}
 
 pub names_begun-append : (xs ys : List (List ℕ)) → names_begun (xs ++ ys) ≡ names_begun xs ++ names_begun ys
 names_begun-append xs ys = ap (map (drop 5)) (filter-append begins_case xs ys) ∙ map-append (drop 5) (filter begins_case xs) (filter begins_case ys)

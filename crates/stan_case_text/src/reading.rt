@@ -1,7 +1,7 @@
 //! The cases of a text are read, line by line.
 
 ghost use Rattle.std.specs.Prelude.{◌≡◌, ◌++◌, [], ◌∷◌, IfOk, OnOk, map};
-ghost use Rattle.stan_cases.specs.Cases.{name_of, lines_of, names_begun};
+ghost use Rattle.stan_case_text.specs.Cases.{name_of, lines_of, names_begun};
 
 use crate::case::{Case, Unread, Why};
 use std::alloc::Global;

@@ -10,7 +10,7 @@
 //! - A text with insertions is in `"`, its tokens in `<` and `>`, an expression in braces: `"<a>{$b}"`.
 //! - A `,` behind the last item of a list stays.
 
-use super::marks::{
+use crate::marks::{
     array_mark, assignment_mark, binary_mark, leaf_mark, prefix_mark, visibility_mark,
 };
 use stan_base::line_at;

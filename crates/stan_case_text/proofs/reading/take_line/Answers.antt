@@ -1,5 +1,5 @@
-use Rattle.stan_cases.proofs.CaseLemmas.{names-kept, on_ok}
-use Rattle.stan_cases.proofs.reading.take_line.Goals as goal
+use Rattle.stan_case_text.proofs.CaseLemmas.{names-kept, on_ok}
+use Rattle.stan_case_text.proofs.reading.take_line.Goals as goal
 
 pub returns-in-Some-last_mut : goal.returns-in-Some-last_mut
 returns-in-Some-last_mut c =

@@ -1,5 +1,5 @@
 use Rattle.std.proofs.Common.{◌≡◌}
-use Rattle.stan_cases.proofs.case.Case.push_words.Given as goal
+use Rattle.stan_case_text.proofs.case.Case.push_words.Given as goal
 
 abbrev pub invariant-loop-word : goal.invariant-loop-word
 invariant-loop-word l =

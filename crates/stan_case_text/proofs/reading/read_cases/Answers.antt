@@ -1,9 +1,9 @@
 use Rattle.std.proofs.Common.{◌∙◌, map, ap, lit<, rules}
 use Rattle.std.proofs.lemmas.Iterator.Consumers.{YieldsList-end, YieldsList-from_enumerate, YieldsList-at}
 use Rattle.std.proofs.lemmas.Iterator.Splits.{YieldsList-from_str_split}
-use Rattle.stan_cases.specs.Cases.{lines_of, name_of, names_begun}
-use Rattle.stan_cases.proofs.CaseLemmas.{line-more, lines-read}
-use Rattle.stan_cases.proofs.reading.read_cases.Goals as goal
+use Rattle.stan_case_text.specs.Cases.{lines_of, name_of, names_begun}
+use Rattle.stan_case_text.proofs.CaseLemmas.{line-more, lines-read}
+use Rattle.stan_case_text.proofs.reading.read_cases.Goals as goal
 
 pub loop-place-preserved : goal.loop-place-preserved
 loop-place-preserved c =

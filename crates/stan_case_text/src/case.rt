@@ -99,7 +99,7 @@ pub enum Why {
 
 impl fmt::Display for Unread {
     ghost use Rattle.std.specs.Prelude.{Some};
-    ghost use Rattle.stan_cases.specs.Unread.{unread_text};
+    ghost use Rattle.stan_case_text.specs.Unread.{unread_text};
 
     ghost output = { λ unread. Some (unread_text unread) };
 

@@ -1,7 +1,7 @@
 -- The cases of a text, by the lines that begin them.
 use Rattle.std.specs.Prelude.{ℕ, ◌==◌, Bool, List, codes, drop, filter, map, nat_eq, string_bytes}
 use Rattle.std.specs.List.{slice_split, starts_with}
-use Rattle.stan_cases.specs.declared.case.Case.{Case}
+use Rattle.stan_case_text.specs.declared.case.Case.{Case}
 
 abbrev pub name_of : Case → List ℕ
 name_of case = string_bytes case.name

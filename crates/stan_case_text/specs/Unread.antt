@@ -1,8 +1,8 @@
 -- What is printed where cases could not be read.
 use Rattle.std.specs.Prelude.{ℕ, List, ◌++◌, codes, decimal}
-use Rattle.stan_cases.specs.declared.case.Unread.{Unread}
-use Rattle.stan_cases.specs.declared.case.Why.{Why}
-use Rattle.stan_cases.specs.declared.case.Why.TheVariants.{Form, OutOfMemory}
+use Rattle.stan_case_text.specs.declared.case.Unread.{Unread}
+use Rattle.stan_case_text.specs.declared.case.Why.{Why}
+use Rattle.stan_case_text.specs.declared.case.Why.TheVariants.{Form, OutOfMemory}
 
 abbrev pub text_at : ℕ → Why → List ℕ
 text_at line Form = codes "line " ++ decimal line ++ codes " is none of a case"

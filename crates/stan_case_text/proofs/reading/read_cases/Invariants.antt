@@ -1,6 +1,6 @@
 use Rattle.std.proofs.Common.{◌≡◌, map}
-use Rattle.stan_cases.specs.Cases.{name_of, names_begun}
-use Rattle.stan_cases.proofs.reading.read_cases.Given as goal
+use Rattle.stan_case_text.specs.Cases.{name_of, names_begun}
+use Rattle.stan_case_text.proofs.reading.read_cases.Given as goal
 
 abbrev pub invariant-loop-place : goal.invariant-loop-place
 invariant-loop-place l =

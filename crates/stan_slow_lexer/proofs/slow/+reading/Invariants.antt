@@ -1,4 +1,4 @@
-use Rattle.stan_readings.proofs.slow.+reading.Given as goal
+use Rattle.stan_slow_lexer.proofs.slow.+reading.Given as goal
 
 abbrev pub decreases-read_text : goal.decreases-read_text
 decreases-read_text l = l.left

@@ -1,5 +1,5 @@
 use Rattle.std.proofs.Common.{◌≡◌}
-use Rattle.stan_cases.proofs.case.Case.push_fill.Given as goal
+use Rattle.stan_case_text.proofs.case.Case.push_fill.Given as goal
 
 abbrev pub invariant-loop : goal.invariant-loop
 invariant-loop l = l.self.name ≡ l.initial.self.name

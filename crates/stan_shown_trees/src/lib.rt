@@ -1,0 +1,7 @@
+//! Trees of expressions as text.
+#![tactic(auto)]
+
+mod marks;
+mod shown;
+
+pub use shown::Printer;
