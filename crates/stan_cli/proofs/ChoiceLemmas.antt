@@ -4,12 +4,14 @@ use Rattle.std.proofs.lemmas.List.{length-map}
 use Rattle.std.specs.Prelude.{filter}
 use Rattle.std.specs.List.{Contains}
 use Rattle.stan_outside.specs.Contents.{Contents}
-use Rattle.stan_cli.specs.Project.{normal_path, is_chosen, chosen_files, paths_of}
+use Rattle.stan_paths.specs.Paths.{normal_path}
+use Rattle.stan_cli.specs.Project.{is_chosen, chosen_files, paths_of}
 use Rattle.stan_cli.proofs.ChosenLemmas.{chosen_are}
 use Rattle.stan_outside.specs.Outside.{Lists}
 use Rattle.stan_base.proofs.SortLemmas.{Contains-map, item_from_Contains-map}
-use Rattle.stan_cli.specs.Choice.{IsInOrder, IsChoice}
-use Rattle.stan_cli.proofs.ListLemmas.{Contains-filter, passes_from_filter}
+use Rattle.stan_paths.specs.Paths.{IsInOrder}
+use Rattle.stan_cli.specs.Choice.{IsChoice}
+use Rattle.stan_paths.proofs.ListLemmas.{Contains-filter, passes_from_filter}
 
 -- files that pass the test of the paths in normal form, put in order, are the choice
 pub choice_is : (paths normal : List (List ℕ)) (listed : List (String Global)) (files : List (List ℕ)) → normal ≡ map normal_path paths → IsInOrder (map string_bytes (filter (λ file. is_chosen normal (string_bytes file)) listed)) files → IsChoice paths (map string_bytes listed) files

@@ -14,7 +14,9 @@ use Rattle.std.proofs.lemmas.List.Folds.{Any-from_list_any, list_any-from_Any}
 use Rattle.stan_base.proofs.Orders.{same_test, IsStrictlySortedBy-keys, strictly_sorted_unique, Contains-where_key}
 use Rattle.stan_model_grammar.specs.Reading.{largest_source}
 use Rattle.stan_outside.specs.Contents.{Contents}
-use Rattle.stan_cli.specs.Project.{normal_path, is_chosen, chooses, chosen_files, paths_of}
+use Rattle.stan_paths.specs.Paths.{normal_path}
+use Rattle.stan_paths.proofs.ListLemmas.{path_cmp-IsAntisymmetric}
+use Rattle.stan_cli.specs.Project.{is_chosen, chooses, chosen_files, paths_of}
 
 list_any-map : (p : List ℕ → Bool) (paths : List (List ℕ)) → list_any p (map normal_path paths) ≡ list_any (λ path. p (normal_path path)) paths
 list_any-map p [] = refl
@@ -23,9 +25,6 @@ list_any-map p (path ∷ paths) = ap (λ b. p (normal_path path) || b) (list_any
 keys_through : (f : List ℕ → List ℕ) (files : List (List ℕ × List ℕ)) → map (λ file. file.0) files ≡ paths_of (map (λ file. (file.0, f file.1)) files)
 keys_through f [] = refl
 keys_through f (file ∷ files) = ap (λ ps. file.0 ∷ ps) (keys_through f files)
-
-pub path_cmp-IsAntisymmetric : IsAntisymmetric (slice_cmp nat_cmp)
-path_cmp-IsAntisymmetric = slice_cmp-IsAntisymmetric nat_cmp-IsAntisymmetric
 
 -- a test that one of the paths passes, whatever their order
 some_path : (p : List ℕ → Bool) (paths others : List (List ℕ)) → ((path : List ℕ) → Contains paths path → Contains others path) → list_any p (map normal_path paths) ≡ true → list_any p (map normal_path others) ≡ true

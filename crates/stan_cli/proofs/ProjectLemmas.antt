@@ -11,7 +11,8 @@ use Rattle.std.specs.FinMap as finite
 use Rattle.std.specs.FinMap.Entries.{find, below_all, is_sorted}
 use Rattle.stan_model_grammar.specs.Reading.{largest_source}
 use Rattle.stan_outside.specs.Contents.{Contents}
-use Rattle.stan_cli.specs.Project.{normal_path, is_chosen, chosen_files, paths_of, sources_of}
+use Rattle.stan_paths.specs.Paths.{normal_path}
+use Rattle.stan_cli.specs.Project.{is_chosen, chosen_files, paths_of, sources_of}
 use Rattle.stan_cli.specs.Sources.{source_at}
 
 first_true : (a b : Bool) → T (a && b) → T a

@@ -4,13 +4,8 @@ use Rattle.std.specs.List.{Contains}
 use Rattle.std.specs.List.Sorted.{IsStrictlySortedBy}
 use Rattle.std.specs.Ordering.{nat_cmp}
 use Rattle.std.specs.Cmp.Lexicographic.{slice_cmp}
-use Rattle.stan_cli.specs.Project.{normal_path, is_chosen}
-
--- the same paths in byte order, each once
-pub record IsInOrder (paths ordered : List (List ℕ)) : Type 0 where
-  pub rising : IsStrictlySortedBy (slice_cmp nat_cmp) ordered
-  pub keeps : (path : List ℕ) → Contains paths path → Contains ordered path
-  pub adds_none : (path : List ℕ) → Contains ordered path → Contains paths path
+use Rattle.stan_paths.specs.Paths.{normal_path}
+use Rattle.stan_cli.specs.Project.{is_chosen}
 
 -- the files of a listing that the paths choose, in byte order, each once
 pub record IsChoice (paths listed files : List (List ℕ)) : Type 0 where

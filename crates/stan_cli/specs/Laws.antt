@@ -6,7 +6,8 @@ use Rattle.std.specs.Ordering.{nat_cmp}
 use Rattle.std.specs.Cmp.Lexicographic.{slice_cmp}
 use Rattle.std.specs.FinMap as finite
 use Rattle.stan_outside.specs.Contents.{Contents}
-use Rattle.stan_cli.specs.Project.{normal_path, is_chosen, chosen_files, paths_of}
+use Rattle.stan_paths.specs.Paths.{normal_path}
+use Rattle.stan_cli.specs.Project.{is_chosen, chosen_files, paths_of}
 
 -- Each chosen path stands once, in byte order.
 abbrev pub ChosenOnceInOrder : Type 0

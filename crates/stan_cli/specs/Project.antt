@@ -1,10 +1,11 @@
 -- The files of a folder that given paths choose, and the limits on them.
 use Rattle.std.specs.Prelude.{ℕ, ◌+◌, ◌==◌, ◌&&◌, ◌||◌, nat_lt, if◌then◌else◌, Bool, List, [], ◌∷◌, Option, Some, None, map, filter, length, codes, take, slice_index, nat_eq}
-use Rattle.std.specs.List.{starts_with, ends_with, list_any, join_with_byte}
+use Rattle.std.specs.List.{starts_with, ends_with, list_any}
 use Rattle.std.specs.FinMap as finite
 use Rattle.std.specs.Str.{bytes_eq}
 use Rattle.stan_model_grammar.specs.Reading.{largest_source}
-use Rattle.stan_outside.specs.Contents.{Contents, parts_of, is_proper_part}
+use Rattle.stan_outside.specs.Contents.{Contents, parts_of}
+use Rattle.stan_paths.specs.Paths.{normal_path}
 
 -- ---- paths as they are given
 
@@ -17,10 +18,6 @@ has_parent_part path = list_any (λ part. bytes_eq part (codes "..")) (parts_of 
 -- a path that begins with `/` or has a part `..`
 abbrev pub leads_outside : List ℕ → Bool
 leads_outside path = is_absolute path || has_parent_part path
-
--- without empty parts and parts `.`, so that `.` and the empty path name the whole folder
-abbrev pub normal_path : List ℕ → List ℕ
-normal_path path = join_with_byte 47 (filter is_proper_part (parts_of path))
 
 -- ---- the choice of files
 

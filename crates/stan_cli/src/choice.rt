@@ -1,35 +1,13 @@
 //! The files that the given paths choose.
 
 ghost use Rattle.std.specs.Prelude.{◌≡◌, map, filter, string_bytes, IfOk, OnOk};
-ghost use Rattle.stan_outside.specs.Contents.{parts_of, is_proper_part};
-ghost use Rattle.stan_cli.specs.Project.{normal_path, is_chosen, is_under, chooses};
-ghost use Rattle.stan_cli.specs.Choice.{IsInOrder, IsChoice};
+ghost use Rattle.stan_paths.specs.Paths.{normal_path};
+ghost use Rattle.stan_cli.specs.Project.{is_chosen, is_under, chooses};
+ghost use Rattle.stan_cli.specs.Choice.{IsChoice};
 
 use stan_base::OutOfMemory;
-use std::alloc::{AllocError, Global};
-
-fn is_proper_part(part: &str) -> bool
-    ensures { result ≡ is_proper_part part.now }
-{
-    part != "" && part != "."
-}
-
-fn proper_parts(alloc: Global, path: &str) -> Result<Vec<&str>, AllocError>
-    ensures { IfOk result (λ parts. map (λ part. part.now) parts.items ≡ filter is_proper_part (parts_of path.now)) }
-{
-    path.split('/')
-        .filter(|part| is_proper_part(part))
-        .collect(alloc)
-}
-
-/// A path without empty parts and parts `.`.
-#[tactic(auto, using(crate::proofs::ListLemmas::join_by_texts))]
-pub fn normal_path(alloc: Global, path: &str) -> Result<String, OutOfMemory>
-    ensures { IfOk result (λ normal. string_bytes normal ≡ normal_path path.now) }
-{
-    let parts = proper_parts(alloc, path)?;
-    Ok(parts.as_slice().join(alloc, "/")?)
-}
+use stan_paths::{normal_path, put_in_order};
+use std::alloc::Global;
 
 fn is_under(path: &str, file: &str) -> bool
     ensures { result ≡ is_under path.now file.now }
@@ -66,15 +44,6 @@ fn keep_chosen(paths: &[String], files: &mut Vec<String>)
     ensures { files.new.items ≡ filter (λ file. is_chosen (map string_bytes paths.now) (string_bytes file)) files.old.items }
 {
     files.retain(|file| is_chosen(paths, file.as_str()));
-}
-
-// Puts paths in byte order, each once.
-fn put_in_order(files: &mut Vec<String>) -> Result<(), OutOfMemory>
-    ensures { OnOk result (IsInOrder (map string_bytes files.old.items) (map string_bytes files.new.items)) }
-{
-    files.sort()?;
-    files.dedup();
-    Ok(())
 }
 
 /// The files of a listing that the paths choose, in byte order, each once.

@@ -1,5 +1,5 @@
 use Rattle.std.proofs.Common.{map, string_bytes}
-use Rattle.stan_cli.specs.Choice.{IsInOrder}
+use Rattle.stan_paths.specs.Paths.{IsInOrder}
 use Rattle.stan_cli.proofs.ChoiceLemmas.{choice_is}
 use Rattle.stan_cli.proofs.choice.chosen.Goals as goal
 

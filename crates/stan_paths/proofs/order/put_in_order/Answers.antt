@@ -3,9 +3,9 @@ use Rattle.std.specs.String.{string_eq}
 use Rattle.std.specs.Cmp.Lexicographic.{nat_list_cmp_total, texts_ties}
 use Rattle.std.specs.List.{dedup}
 use Rattle.std.proofs.lemmas.List.Filters.{dedup_is}
-use Rattle.stan_cli.proofs.ChosenLemmas.{path_cmp-IsAntisymmetric}
+use Rattle.stan_paths.proofs.ListLemmas.{path_cmp-IsAntisymmetric}
 use Rattle.stan_base.proofs.SortLemmas.{IsStrictlySortedBy-sorted_once, Contains-sorted_once, Contains-from_sorted_once}
-use Rattle.stan_cli.proofs.choice.put_in_order.Goals as goal
+use Rattle.stan_paths.proofs.order.put_in_order.Goals as goal
 
 pub returns : goal.returns
 returns c =

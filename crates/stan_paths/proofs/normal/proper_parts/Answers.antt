@@ -3,7 +3,7 @@ use Rattle.std.proofs.lemmas.Iterator.Consumers.{map_from_collect, YieldsList-fr
 use Rattle.std.proofs.lemmas.Iterator.Splits.{YieldsList-from_str_split}
 use borrow.Author.Tests.{tests}
 use Rattle.stan_outside.specs.Contents.{is_proper_part}
-use Rattle.stan_cli.proofs.choice.proper_parts.Goals as goal
+use Rattle.stan_paths.proofs.normal.proper_parts.Goals as goal
 
 pub returns : goal.returns
 returns c =

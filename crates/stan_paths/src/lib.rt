@@ -1,0 +1,8 @@
+//! Paths of files: their normal form, and their order.
+#![tactic(auto)]
+
+mod normal;
+mod order;
+
+pub use normal::normal_path;
+pub use order::put_in_order;
