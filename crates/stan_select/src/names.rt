@@ -9,6 +9,8 @@ use stan_base::OutOfMemory;
 use std::alloc::Global;
 use std::collections::BTreeSet;
 
+const SEPARATOR: u8 = b'/';
+
 /// Paths in normal form.
 pub type Names = BTreeSet<Vec<u8>>;
 
@@ -28,7 +30,7 @@ pub fn has_folder(names: &Names, file: &[u8]) -> bool
     ensures { IsTrue result ↔ HasFolder names.now file.now }
 {
     for (at, byte) in file.iter().enumerate() {
-        if *byte == b'/' && names.contains(&file[..at]) {
+        if *byte == SEPARATOR && names.contains(&file[..at]) {
             return true;
         }
     }

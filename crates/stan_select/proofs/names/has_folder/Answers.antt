@@ -4,7 +4,7 @@ use Rattle.stan_select.proofs.names.has_folder.Goals as goal
 
 pub returns-then-contains : goal.returns-then-contains
 returns-then-contains c = (
-  λ t. folder_at c.args.names.now c.args.file.now c.loop-at.at (omega arith) c.if-byte-eq47.true (sym c.contains.ensures ∙ c.if-contains.true),
+  λ t. folder_at c.args.names.now c.args.file.now c.loop-at.at (omega arith) c.if-byte-eq-SEPARATOR.true (sym c.contains.ensures ∙ c.if-contains.true),
   λ h. refl,
 )
 
