@@ -1,0 +1,11 @@
+//! Which files of a folder a configuration chooses: those that are analysed, and those that are only scanned.
+#![tactic(auto)]
+
+pub mod laws;
+mod lookups;
+mod names;
+mod paths;
+mod selection;
+
+pub use paths::normal_path;
+pub use selection::select;
