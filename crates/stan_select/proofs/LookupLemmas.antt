@@ -12,7 +12,7 @@ use Rattle.stan_select.specs.declared.lookups.Lookups.{Lookups}
 use Rattle.stan_select.specs.Choice.{Itself, Under, Matching, normal_paths, IsTakenAwayBy}
 use Rattle.stan_select.specs.Names.{has}
 use Rattle.stan_select.specs.Lookups.{has_star, AreLookups, HasPattern, IsExcluded}
-use Rattle.stan_select.proofs.ListLemmas.{Contains-filter, Contains-from_filter}
+use Rattle.stan_paths.proofs.ListLemmas.{Contains-filter, passes_from_filter}
 use Rattle.stan_select.proofs.NameLemmas.{Contains-from_has, has-from_Contains}
 
 -- ---- patterns one by one
@@ -43,7 +43,7 @@ module _ (config : Config) (lookups : Lookups) (are : AreLookups config lookups)
       (λ named. (file, (Contains-from_has entries lookups.excluded are.excluded file named, Itself refl)))
       (λ folder. (folder.0, (Contains-from_has entries lookups.excluded are.excluded folder.0 folder.1.0, Under folder.1.1)))
       covered)
-      (λ pattern. (pattern.0, (Contains-from_filter has_star entries pattern.0 (subst (λ paths. Contains paths pattern.0) are.patterns pattern.1.0), Matching pattern.1.1)))
+      (λ pattern. (pattern.0, ((passes_from_filter has_star entries pattern.0 (subst (λ paths. Contains paths pattern.0) are.patterns pattern.1.0)).0, Matching pattern.1.1)))
       h
 
   itself : (entry : List ℕ) → Contains entries entry → file ≡ entry → IsExcluded lookups file

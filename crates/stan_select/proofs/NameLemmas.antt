@@ -17,7 +17,8 @@ use Rattle.stan_base.proofs.Orders.{Contains-from_found, found-from_Contains}
 use Rattle.stan_select.specs.Paths.{IsPhp}
 use Rattle.stan_select.specs.Choice.{Named, Within, IsChosenBy}
 use Rattle.stan_select.specs.Names.{has, is_among, AreNames, HasFolder, HasChooser}
-use Rattle.stan_select.proofs.ListLemmas.{path_cmp-IsAntisymmetric, splits_at}
+use Rattle.stan_paths.proofs.ListLemmas.{path_cmp-IsAntisymmetric}
+use Rattle.stan_select.proofs.ListLemmas.{splits_at}
 
 -- ---- tests
 

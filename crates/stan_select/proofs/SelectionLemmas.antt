@@ -14,8 +14,8 @@ use Rattle.stan_select.specs.Choice.{normal_paths, IsChosenBy, IsAnalysed, IsSca
 use Rattle.stan_select.specs.Selection.{Chosen, paths_of, IsSelection}
 use Rattle.stan_select.specs.Names.{HasChooser}
 use Rattle.stan_select.specs.Lookups.{AreLookups, IsKept, AreKept, AreMarked}
-use Rattle.stan_select.specs.Order.{IsInOrder}
-use Rattle.stan_select.proofs.ListLemmas.{path_cmp-IsAntisymmetric}
+use Rattle.stan_paths.specs.Paths.{IsInOrder}
+use Rattle.stan_paths.proofs.ListLemmas.{path_cmp-IsAntisymmetric}
 use Rattle.stan_select.proofs.NameLemmas.{IsChosenBy-from_names, names_choose}
 use Rattle.stan_select.proofs.LookupLemmas.{IsTakenAwayBy-from_lookups, lookups_exclude}
 

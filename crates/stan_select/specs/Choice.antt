@@ -4,7 +4,8 @@ use Rattle.std.specs.declared.alloc.Global.{Global}
 use Rattle.std.specs.List.{Contains}
 use Rattle.stan_settings.specs.declared.Config.{Config}
 use Rattle.stan_patterns.specs.Patterns.{Matches}
-use Rattle.stan_select.specs.Paths.{normal_path, IsUnder, IsPhp}
+use Rattle.stan_paths.specs.Paths.{normal_path}
+use Rattle.stan_select.specs.Paths.{IsUnder, IsPhp}
 
 -- A path in normal form chooses a file.
 pub data Chooses (path file : List ℕ) : Type 0 where

@@ -4,6 +4,5 @@ pub mod Choice
 pub mod Selection
 pub mod Laws
 -- What functions inside promise each other.
-pub mod Order
 pub mod Names
 pub mod Lookups

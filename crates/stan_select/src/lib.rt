@@ -4,8 +4,6 @@
 pub mod laws;
 mod lookups;
 mod names;
-mod paths;
 mod selection;
 
-pub use paths::normal_path;
 pub use selection::select;

@@ -1,12 +1,12 @@
 //! A configuration, ready for look-ups.
 
 ghost use Rattle.std.specs.Prelude.{◌≡◌, ◌↔◌, map, filter, string_bytes, IsTrue, IfOk};
-ghost use Rattle.stan_select.specs.Paths.{normal_path};
+ghost use Rattle.stan_paths.specs.Paths.{normal_path};
 ghost use Rattle.stan_select.specs.Lookups.{has_star, AreLookups, HasPattern, IsExcluded, HasAnyChooser, IsKept};
 
 use crate::names::{Names, add_names, covers, has_chooser};
-use crate::paths::normal_path;
 use stan_base::OutOfMemory;
+use stan_paths::normal_path;
 use stan_patterns::matches;
 use stan_settings::Config;
 use std::alloc::Global;

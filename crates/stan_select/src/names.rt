@@ -1,11 +1,11 @@
 //! Sets of paths. Whether a file stands under one of many is a look-up for each `/` of its path.
 
 ghost use Rattle.std.specs.Prelude.{◌≡◌, ◌↔◌, ◌||◌, ℕ, List, map, string_bytes, IsTrue, OnOk};
-ghost use Rattle.stan_select.specs.Paths.{normal_path};
+ghost use Rattle.stan_paths.specs.Paths.{normal_path};
 ghost use Rattle.stan_select.specs.Names.{has, is_among, HasFolder, Covers, HasChooser};
 
-use crate::paths::normal_path;
 use stan_base::OutOfMemory;
+use stan_paths::normal_path;
 use std::alloc::Global;
 use std::collections::BTreeSet;
 

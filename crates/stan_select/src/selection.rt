@@ -1,13 +1,13 @@
 //! The choice of files.
 
-ghost use Rattle.std.specs.Prelude.{map, string_bytes, IfOk, OnOk};
+ghost use Rattle.std.specs.Prelude.{map, string_bytes, IfOk};
 ghost use Rattle.stan_select.specs.Selection.{chosen_files, IsSelection};
 ghost use Rattle.stan_select.specs.Lookups.{AreKept, AreMarked};
-ghost use Rattle.stan_select.specs.Order.{IsInOrder};
 
 use crate::lookups::{Lookups, is_kept, lookups_of};
 use crate::names::has_chooser;
 use stan_base::OutOfMemory;
+use stan_paths::put_in_order;
 use stan_settings::Config;
 use std::alloc::Global;
 
@@ -39,15 +39,6 @@ fn kept(alloc: Global, lookups: &Lookups, listed: &[String]) -> Result<Vec<Strin
         }
     }
     Ok(paths)
-}
-
-// Puts paths in byte order, each once.
-fn put_in_order(paths: &mut Vec<String>) -> Result<(), OutOfMemory>
-    ensures { OnOk result (IsInOrder (map string_bytes paths.old.items) (map string_bytes paths.new.items)) }
-{
-    paths.sort()?;
-    paths.dedup();
-    Ok(())
 }
 
 // Paths, each with whether it is analysed.

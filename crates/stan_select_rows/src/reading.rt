@@ -3,9 +3,10 @@
 use crate::configuration::configuration;
 use crate::many::{Size, chosen};
 use stan_base::OutOfMemory;
+use stan_paths::normal_path;
 use stan_patterns::matches;
 use stan_rows::{Reading, number, parts, plain, words};
-use stan_select::{normal_path, select};
+use stan_select::select;
 use std::alloc::Global;
 
 /// The folders of rows.

@@ -1,5 +1,5 @@
 use Rattle.std.proofs.Common.{◌≡◌, map, filter, take, string_bytes}
-use Rattle.stan_select.specs.Paths.{normal_path}
+use Rattle.stan_paths.specs.Paths.{normal_path}
 use Rattle.stan_select.specs.Lookups.{has_star}
 use Rattle.stan_select.proofs.lookups.starred.Given as goal
 

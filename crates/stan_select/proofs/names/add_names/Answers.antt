@@ -1,5 +1,5 @@
 use Rattle.std.proofs.Common.{◌≡◌, ◌+◌, ◌<◌, ◌++◌, [], ◌∷◌, ℕ, List, length, map, take, string_bytes, sym, ap, ◌∙◌, arith}
-use Rattle.stan_select.specs.Paths.{normal_path}
+use Rattle.stan_paths.specs.Paths.{normal_path}
 use Rattle.stan_select.specs.Names.{has}
 use Rattle.stan_select.proofs.ListLemmas.{normal_paths-more}
 use Rattle.stan_select.proofs.NameLemmas.{has-more}

@@ -1,5 +1,5 @@
 use Rattle.std.proofs.Common.{◌≡◌, ◌||◌, ℕ, List, map, take, string_bytes}
-use Rattle.stan_select.specs.Paths.{normal_path}
+use Rattle.stan_paths.specs.Paths.{normal_path}
 use Rattle.stan_select.specs.Names.{has, is_among}
 use Rattle.stan_select.proofs.names.add_names.Given as goal
 
