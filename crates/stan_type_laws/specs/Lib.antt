@@ -1,3 +1,4 @@
+pub mod Breaks
 pub mod Laws
 pub mod Members
 pub mod Settled

@@ -1,5 +1,6 @@
 //! Laws of the definitions: each is the contract of a function that does nothing.
 
+ghost use Rattle.stan_type_laws.specs.Breaks.{Breaks};
 ghost use Rattle.stan_type_laws.specs.Laws.{Closed, Commutative, Complementary, Idempotent, Neutral, NormalAgain, Numbered};
 
 /// One part, a union, and what a test keeps and leaves, are normal forms.
@@ -35,4 +36,9 @@ pub fn tests_are_complementary()
 /// Each int part of a normal form has its least at most at its greatest.
 pub fn int_parts_have_numbers()
     ensures { Numbered }
+{}
+
+/// Where a union at a limit isn't associative, and what a test keeps and leaves isn't the whole type.
+pub fn where_laws_break()
+    ensures { Breaks }
 {}
