@@ -1,4 +1,5 @@
 pub mod Again
+pub mod Associating
 pub mod Commuting
 pub mod Counts
 pub mod Normals

@@ -1,11 +1,11 @@
 -- What holds of the union of types in normal form, and of tests on them.
-use Rattle.std.specs.Prelude.{◌≡◌, true, ◌++◌}
+use Rattle.std.specs.Prelude.{◌≡◌, List, true, ◌++◌}
 use Rattle.stan_model_types.specs.Types.{PhpType, never, Part, parts}
 use Rattle.stan_model_types.specs.TypeBytes.{part_order}
 use Rattle.stan_model_types.specs.TypeFilters.{Filter, keep, without}
 use Rattle.stan_model_types.specs.NormalForms.{IsNormal, normal, one, union}
 use Rattle.stan_type_laws.specs.Members.{In, Tells}
-use Rattle.stan_type_laws.specs.Settled.{HaveNumbers}
+use Rattle.stan_type_laws.specs.Settled.{HaveNumbers, IsSettled}
 use Rattle.stan_type_laws.specs.Tests.{IsKindTest, is_definite}
 
 -- what unites and tests gives normal forms
@@ -31,6 +31,17 @@ pub record Neutral : Type 0 where
 -- two types may be united in either order, where parts of equal bytes are equal
 abbrev pub Commutative : Type 0
 Commutative = (t u : PhpType) → IsNormal t → IsNormal u → Tells part_order (parts t ++ parts u) → union t u ≡ union u t
+
+-- the parts of three types stand together in one normal form: none touches another, and no limit cuts
+pub record Together (t u v : PhpType) : Type 0 where
+  pub together : List Part
+  pub settled : IsSettled together
+  pub all : (p : Part) → In p (parts t ++ (parts u ++ parts v)) → In p together
+  pub only : (p : Part) → In p together → In p (parts t ++ (parts u ++ parts v))
+
+-- of such types it doesn't matter which two are united first
+abbrev pub Associative : Type 0
+Associative = (t u v : PhpType) → Together t u v → union (union t u) v ≡ union t (union u v)
 
 -- what a test for a kind keeps and what is left make the type, where it has no `mixed`, template or `callable`
 abbrev pub Complementary : Type 0

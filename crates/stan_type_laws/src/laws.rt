@@ -1,7 +1,7 @@
 //! Laws of the definitions: each is the contract of a function that does nothing.
 
 ghost use Rattle.stan_type_laws.specs.Breaks.{Breaks};
-ghost use Rattle.stan_type_laws.specs.Laws.{Closed, Commutative, Complementary, Idempotent, Neutral, NormalAgain, Numbered};
+ghost use Rattle.stan_type_laws.specs.Laws.{Associative, Closed, Commutative, Complementary, Idempotent, Neutral, NormalAgain, Numbered};
 
 /// One part, a union, and what a test keeps and leaves, are normal forms.
 pub fn types_are_normal()
@@ -26,6 +26,11 @@ pub fn never_is_neutral()
 /// Two types may be united in either order, where parts of equal bytes are equal.
 pub fn union_is_commutative()
     ensures { Commutative }
+{}
+
+/// Of three types whose parts stand together in one normal form it doesn't matter which two are united first.
+pub fn union_is_associative()
+    ensures { Associative }
 {}
 
 /// What a test for a kind keeps and what is left make the type, where it has no `mixed`, template or `callable`.
