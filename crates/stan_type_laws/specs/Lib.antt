@@ -3,3 +3,4 @@ pub mod Laws
 pub mod Members
 pub mod Settled
 pub mod Tests
+pub mod Worked

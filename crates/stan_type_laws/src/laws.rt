@@ -2,6 +2,7 @@
 
 ghost use Rattle.stan_type_laws.specs.Breaks.{Breaks};
 ghost use Rattle.stan_type_laws.specs.Laws.{Associative, Closed, Commutative, Complementary, Idempotent, Neutral, NormalAgain, Numbered};
+ghost use Rattle.stan_type_laws.specs.Worked.{WorkedTests};
 
 /// One part, a union, and what a test keeps and leaves, are normal forms.
 pub fn types_are_normal()
@@ -46,4 +47,9 @@ pub fn int_parts_have_numbers()
 /// Where a union at a limit isn't associative, and what a test keeps and leaves isn't the whole type.
 pub fn where_laws_break()
     ensures { Breaks }
+{}
+
+/// What tests keep and leave, worked by hand.
+pub fn worked_tests()
+    ensures { WorkedTests }
 {}
