@@ -9,5 +9,6 @@ mod unite;
 
 pub use equal::{is_equal, order};
 pub use stan_tri::Tri;
+pub use stan_type_filters::{Filter, keep, without};
 pub use stan_type_parts::{Field, Key, Part, PhpType, StringForm};
 pub use unite::{one, union};

@@ -5,6 +5,7 @@ ghost use Rattle.stan_model_types.specs.NormalForms as model;
 ghost use Rattle.stan_type_parts.specs.Parts.{part_of};
 
 use stan_base::OutOfMemory;
+use stan_type_merge::merged;
 use stan_type_normal::normal;
 use stan_type_parts::{Part, PhpType};
 use std::alloc::Global;
@@ -28,6 +29,14 @@ pub fn one(alloc: Global, part: Part) -> Result<PhpType, OutOfMemory>
     Ok(t)
 }
 
+// The normal form of the parts of both, from all of them anew.
+fn united(alloc: Global, a: &PhpType, b: &PhpType) -> Result<PhpType, OutOfMemory>
+    ensures { IfOk result (λ t. t ≡ model.union a.now b.now) }
+{
+    let t = normal(alloc, LEVELS, a.parts(), b.parts())?;
+    Ok(t)
+}
+
 /// The normal form of the parts of both. Only memory can be wanting.
 ///
 /// - `mixed` stands alone, and the explicit one wins.
@@ -38,6 +47,8 @@ pub fn one(alloc: Global, part: Part) -> Result<PhpType, OutOfMemory>
 pub fn union(alloc: Global, a: &PhpType, b: &PhpType) -> Result<PhpType, OutOfMemory>
     ensures { IfOk result (λ t. t ≡ model.union a.now b.now) }
 {
-    let t = normal(alloc, LEVELS, a.parts(), b.parts())?;
-    Ok(t)
+    match merged(alloc, a, b)? {
+        Some(t) => Ok(t),
+        None => united(alloc, a, b),
+    }
 }

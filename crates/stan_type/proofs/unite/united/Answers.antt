@@ -3,7 +3,7 @@ use Rattle.stan_model_types.specs.Types as model
 use Rattle.stan_model_types.specs.NormalForms.{normal, normal_within}
 use Rattle.stan_type_parts.specs.Parts.{part_of}
 use Rattle.stan_type_order.proofs.Encodings.{parts-of_parts}
-use Rattle.stan_type.proofs.unite.union.Goals as goal
+use Rattle.stan_type.proofs.unite.united.Goals as goal
 
 pub returns : goal.returns
 unfolding normal

@@ -1,0 +1,11 @@
+pub mod Again
+pub mod Associating
+pub mod Commuting
+pub mod Counts
+pub mod Normals
+pub mod Ranges
+pub mod Rising
+pub mod Settling
+pub mod Sorting
+pub mod Tests
+pub mod Wholes

@@ -1,0 +1,6 @@
+pub mod Breaks
+pub mod Laws
+pub mod Members
+pub mod Settled
+pub mod Tests
+pub mod Worked
