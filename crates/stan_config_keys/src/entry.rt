@@ -23,11 +23,7 @@ pub fn unless(means: bool) -> Option<Place>
     if means { None } else { Some(Place::Here) }
 }
 
-fn path_items_fault(
-    alloc: Global,
-    file: &str,
-    nodes: &[Node],
-) -> Result<Option<Place>, OutOfMemory>
+fn path_items_fault(alloc: Global, file: &str, nodes: &[Node]) -> Result<Option<Place>, OutOfMemory>
     ensures { IfOk result (λ fault. fault ≡ model.items_fault 0 (map (λ node. model.unless_some (values.path_of file.now node)) nodes.now)) }
 {
     for (at, node) in nodes.iter().enumerate() {

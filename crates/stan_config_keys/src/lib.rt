@@ -4,8 +4,8 @@
 mod entry;
 mod faults;
 mod free;
-mod names;
+pub mod names;
 mod places;
-mod values;
+pub mod values;
 
 pub use faults::file_fault;
