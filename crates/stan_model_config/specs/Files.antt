@@ -1,5 +1,5 @@
 -- What the files of a project say together, or why they are refused.
-use Rattle.std.specs.Prelude.{ℕ, zero, suc, ◌+◌, ◌++◌, ◌==◌, ◌||◌, ◌&&◌, not, if◌then◌else◌, Bool, true, false, is_some, List, [], ◌∷◌, Option, Some, None, Result, Ok, Err, codes, length, map, take, unwrap_or}
+use Rattle.std.specs.Prelude.{ℕ, zero, suc, ◌++◌, ◌==◌, if◌then◌else◌, Bool, true, List, [], ◌∷◌, Option, Some, None, Result, Ok, Err, codes, length, map, take, unwrap_or}
 use Rattle.std.specs.List.{list_any}
 use Rattle.std.specs.FinMap as finite
 use Rattle.std.specs.Str.{bytes_eq}
@@ -44,9 +44,9 @@ read_as file (Ok node) = judged file node (file_fault file node)
 abbrev pub text_at : Contents → List ℕ → List ℕ
 text_at contents file = take most_read (unwrap_or (finite.get contents file) [])
 
--- what a file says by itself
-abbrev pub content_at : Neon → Contents → List (List ℕ) → List ℕ → Result Content Stop
-content_at neon contents listed file = if is_among listed file then read_as file (neon (text_at contents file)) else Err (Missing file)
+-- what a file says by itself, where a test tells which files are listed
+abbrev pub content_at : Neon → Contents → (List ℕ → Bool) → List ℕ → Result Content Stop
+content_at neon contents is_listed file = if is_listed file then read_as file (neon (text_at contents file)) else Err (Missing file)
 
 -- ---- files together
 
@@ -66,7 +66,7 @@ over own under = record {
   report = or_else own.report under.report;
 }
 
--- What an include says, and what those behind it say: a later scalar wins, and earlier items come first.
+-- What earlier includes say, and what a later one says: a later scalar wins, and earlier items come first.
 abbrev pub beside : Said → Said → Said
 beside first later = record {
   level = or_else later.level first.level;
@@ -88,35 +88,36 @@ abbrev pub Reader : Type 0
 Reader = List (List ℕ) → List ℕ → Result Found Stop
 
 abbrev pub found_beside : Said → Found → Found
-found_beside first later = record { said = beside first later.said; read = later.read }
+found_beside earlier first = record { said = beside earlier first.said; read = first.read }
 
 abbrev pub found_over : Said → Found → Found
 found_over own under = record { said = over own under.said; read = under.read }
 
--- Includes in their order. One that was read before isn't read again.
-abbrev pub each_include : Reader → List (List ℕ) → List (List ℕ) → Result Found Stop
-each_include reader read [] = Ok (record { said = nothing; read = read })
-each_include reader read (file ∷ files) =
-    if is_among read file then each_include reader read files
-    else then_ok (reader read file) (λ first. then_ok (each_include reader first.read files) (λ later. Ok (found_beside first.said later)))
+-- Includes in their order, behind what was found. One that was read before isn't read again.
+abbrev pub each_include : Reader → Found → List (List ℕ) → Result Found Stop
+each_include reader found [] = Ok found
+each_include reader found (file ∷ files) =
+    if is_among found.read file then each_include reader found files
+    else then_ok (reader found.read file) (λ first. each_include reader (found_beside found.said first) files)
 
--- A file may include neither itself nor a file on the chain of includes that led to it, and nothing where no include more may stand on that chain.
-abbrev pub includes_are_refused : ℕ → List (List ℕ) → List ℕ → List (List ℕ) → Bool
-includes_are_refused left chain file includes = ((left == 0) && not (length includes == 0)) || list_any (λ include. is_among (chain ++ file ∷ []) include) includes
+-- a file that was read
+abbrev pub begun : List (List ℕ) → List ℕ → List (List ℕ)
+begun read file = read ++ file ∷ []
 
--- a file without includes
-abbrev pub no_reader : Reader
-no_reader read file = Ok (record { said = nothing; read = read })
+-- A file to which as many includes led as may be includes nothing.
+abbrev pub alone : List (List ℕ) → List ℕ → Content → Result Found Stop
+alone read file content = if length content.includes == 0 then Ok (record { said = content.said; read = begun read file }) else Err (BadConfig file (codes "includes"))
 
-abbrev pub with_includes : ℕ → (List (List ℕ) → Reader) → List (List ℕ) → List (List ℕ) → List ℕ → Content → Result Found Stop
-with_includes left reader chain read file content =
-    if includes_are_refused left chain file content.includes then Err (BadConfig file (codes "includes"))
-    else then_ok (each_include (reader (chain ++ file ∷ [])) (read ++ file ∷ []) content.includes) (λ under. Ok (found_over content.said under))
+-- A file includes neither itself nor a file on the chain of includes that led to it. What it includes is read behind it.
+abbrev pub with_includes : Reader → List (List ℕ) → List (List ℕ) → List ℕ → Content → Result Found Stop
+with_includes reader chain read file content =
+    if list_any (λ include. is_among chain include) content.includes then Err (BadConfig file (codes "includes"))
+    else then_ok (each_include reader (record { said = nothing; read = begun read file }) content.includes) (λ under. Ok (found_over content.said under))
 
 -- A file at the end of a chain on which so many includes more may stand: first by itself, then its includes.
 abbrev pub found_at : (List ℕ → Result Content Stop) → ℕ → List (List ℕ) → Reader
-found_at contents zero chain read file = then_ok (contents file) (with_includes zero (λ longer. no_reader) chain read file)
-found_at contents (suc left) chain read file = then_ok (contents file) (with_includes (suc left) (found_at contents left) chain read file)
+found_at contents zero chain read file = then_ok (contents file) (alone read file)
+found_at contents (suc left) chain read file = then_ok (contents file) (with_includes (found_at contents left (chain ++ file ∷ [])) (chain ++ file ∷ []) read file)
 
 -- ---- the project
 
@@ -130,17 +131,17 @@ pub record Asked : Type 0 where
   pub level : Option ℕ
   pub paths : List (List ℕ)
 
-abbrev pub first_listed : List (List ℕ) → List (List ℕ) → Option (List ℕ)
-first_listed listed [] = None
-first_listed listed (name ∷ names) = if is_among listed name then Some name else first_listed listed names
+abbrev pub first_listed : (List ℕ → Bool) → List (List ℕ) → Option (List ℕ)
+first_listed is_listed [] = None
+first_listed is_listed (name ∷ names) = if is_listed name then Some name else first_listed is_listed names
 
 abbrev pub default_names : List (List ℕ)
 default_names = codes "phpstan.neon" ∷ codes "phpstan.neon.dist" ∷ codes "phpstan.dist.neon" ∷ []
 
 -- the file that is read: the one that the words name, else the first of three names that is listed
-abbrev pub root_of : List (List ℕ) → Option (List ℕ) → Option (List ℕ)
-root_of listed (Some path) = Some (normal_path path)
-root_of listed None = first_listed listed default_names
+abbrev pub root_of : (List ℕ → Bool) → Option (List ℕ) → Option (List ℕ)
+root_of is_listed (Some path) = Some (normal_path path)
+root_of is_listed None = first_listed is_listed default_names
 
 abbrev pub said_from : (List ℕ → Result Content Stop) → Option (List ℕ) → Result Said Stop
 said_from contents None = Ok nothing
@@ -174,6 +175,9 @@ meaning asked said = record {
 abbrev pub with_paths : Meaning → Result Meaning Stop
 with_paths meant = if length meant.paths == 0 then Err NoPaths else Ok meant
 
+abbrev pub configured : (List ℕ → Result Content Stop) → (List ℕ → Bool) → Asked → Result Meaning Stop
+configured contents is_listed asked = then_ok (said_from contents (root_of is_listed asked.configuration)) (λ said. with_paths (meaning asked said))
+
 -- What a project's configuration means under some words, or why it is refused.
 abbrev pub configuration : Neon → Contents → List (List ℕ) → Asked → Result Meaning Stop
-configuration neon contents listed asked = then_ok (said_from (content_at neon contents listed) (root_of listed asked.configuration)) (λ said. with_paths (meaning asked said))
+configuration neon contents listed asked = configured (content_at neon contents (is_among listed)) (is_among listed) asked
