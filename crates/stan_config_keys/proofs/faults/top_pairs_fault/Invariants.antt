@@ -1,0 +1,8 @@
+use Rattle.std.proofs.Common.{◌≡◌, [], drop, take}
+use Rattle.std.specs.Prelude.{map}
+use Rattle.stan_model_config.specs.Faults.{top_pair_fault, pairs_fault}
+use Rattle.stan_config_keys.proofs.faults.top_pairs_fault.Given as goal
+
+-- The pairs so far are at no fault.
+abbrev pub invariant-loop-at : goal.invariant-loop-at
+invariant-loop-at l = pairs_fault [] (map (top_pair_fault l.file) l.pairs) ≡ pairs_fault (map (λ pair. pair.0) (take l.at l.pairs)) (map (top_pair_fault l.file) (drop l.at l.pairs))
