@@ -1,8 +1,8 @@
-//! Paths of configuration files and of the words, and sets of texts.
+//! Paths of configuration files, and sets of texts.
 #![tactic(auto)]
 
 mod paths;
 mod text_set;
 
-pub use paths::{normal_path, resolved};
+pub use paths::resolved;
 pub use text_set::TextSet;

@@ -1,17 +1,12 @@
 //! Paths relative to the folder of a file.
 
-ghost use Rattle.std.specs.Prelude.{◌≡◌, map, filter, string_bytes, option_map, IfOk};
-ghost use Rattle.stan_outside.specs.Contents.{parts_of, is_proper_part};
+ghost use Rattle.std.specs.Prelude.{◌≡◌, map, string_bytes, option_map, IfOk};
+ghost use Rattle.stan_outside.specs.Contents.{parts_of};
 ghost use Rattle.stan_model_config.specs.Paths as model;
 
 use stan_base::OutOfMemory;
+use stan_paths::is_proper_part;
 use std::alloc::{AllocError, Global};
-
-fn is_proper_part(part: &str) -> bool
-    ensures { result ≡ is_proper_part part.now }
-{
-    part != "" && part != "."
-}
 
 fn is_absolute(path: &str) -> bool
     ensures { result ≡ model.is_absolute path.now }
@@ -23,23 +18,6 @@ fn parts_of(alloc: Global, path: &str) -> Result<Vec<&str>, AllocError>
     ensures { IfOk result (λ parts. map (λ part. part.now) parts.items ≡ parts_of path.now) }
 {
     path.split('/').collect(alloc)
-}
-
-fn proper_parts(alloc: Global, path: &str) -> Result<Vec<&str>, AllocError>
-    ensures { IfOk result (λ parts. map (λ part. part.now) parts.items ≡ filter is_proper_part (parts_of path.now)) }
-{
-    path.split('/')
-        .filter(|part| is_proper_part(part))
-        .collect(alloc)
-}
-
-/// A path of the words without empty parts and parts `.`.
-#[tactic(auto, using(crate::proofs::JoinLemmas::join_by_texts))]
-pub fn normal_path(alloc: Global, path: &str) -> Result<String, OutOfMemory>
-    ensures { IfOk result (λ normal. string_bytes normal ≡ model.normal_path path.now) }
-{
-    let parts = proper_parts(alloc, path)?;
-    Ok(parts.as_slice().join(alloc, "/")?)
 }
 
 // The folder in which a file stands.
@@ -72,7 +50,7 @@ fn go<'a>(from: Vec<&'a str>, parts: &[&'a str]) -> Result<Option<Vec<&'a str>>,
 
 /// What a path means that stands in a file: it is relative to the file's folder. None where it leads outside the project's
 /// folder, as one that begins with `/` or that is above it at some part.
-#[tactic(auto, using(crate::proofs::JoinLemmas::join_by_texts))]
+#[tactic(auto, using(stan_paths::proofs::ListLemmas::join_by_texts))]
 pub fn resolved(alloc: Global, file: &str, path: &str) -> Result<Option<String>, OutOfMemory>
     ensures { IfOk result (λ path_there. option_map string_bytes path_there ≡ model.resolved file.now path.now) }
 {

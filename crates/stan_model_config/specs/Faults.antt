@@ -1,5 +1,5 @@
 -- Where a file is first at fault, in the order of its lines: at a key that is unknown, stands twice in its map or has a value of another form, or at a path that leads outside.
-use Rattle.std.specs.Prelude.{ℕ, ◌+◌, ◌++◌, ◌||◌, not, if◌then◌else◌, Bool, is_none, List, [], ◌∷◌, Option, Some, None, map, codes, decimal}
+use Rattle.std.specs.Prelude.{ℕ, ◌+◌, ◌++◌, if◌then◌else◌, Bool, List, [], ◌∷◌, Option, Some, None, map, codes, decimal}
 use Rattle.std.specs.List.{list_any}
 use Rattle.std.specs.Str.{bytes_eq}
 use Rattle.stan_model_neon.specs.declared.node.Node.{Node, out-Node}

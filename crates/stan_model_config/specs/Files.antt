@@ -2,10 +2,9 @@
 use Rattle.std.specs.Prelude.{ℕ, zero, suc, ◌++◌, ◌==◌, if◌then◌else◌, Bool, true, List, [], ◌∷◌, Option, Some, None, Result, Ok, Err, codes, length, map, take, unwrap_or}
 use Rattle.std.specs.List.{list_any}
 use Rattle.std.specs.FinMap as finite
-use Rattle.std.specs.Str.{bytes_eq}
 use Rattle.stan_outside.specs.Contents.{Contents}
 use Rattle.stan_model_neon.specs.declared.node.Node.{Node}
-use Rattle.stan_model_config.specs.Paths.{normal_path}
+use Rattle.stan_paths.specs.Paths.{normal_path}
 use Rattle.stan_model_config.specs.Faults.{Fault, file_fault, is_among, written}
 use Rattle.stan_model_config.specs.Said.{Said, Content, Entry, nothing, content_of}
 

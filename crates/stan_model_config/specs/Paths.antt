@@ -1,15 +1,11 @@
 -- Paths of a configuration file are relative to its folder.
-use Rattle.std.specs.Prelude.{ℕ, ◌-◌, ◌==◌, ◌++◌, if◌then◌else◌, Bool, List, [], ◌∷◌, Option, Some, None, filter, length, take, codes, nat_eq, option_map}
+use Rattle.std.specs.Prelude.{ℕ, ◌-◌, ◌==◌, ◌++◌, if◌then◌else◌, Bool, List, [], ◌∷◌, Option, Some, None, length, take, codes, nat_eq, option_map}
 use Rattle.std.specs.List.{starts_with, join_with_byte}
 use Rattle.std.specs.Str.{bytes_eq}
 use Rattle.stan_outside.specs.Contents.{parts_of, is_proper_part}
 
 abbrev pub is_absolute : List ℕ → Bool
 is_absolute path = starts_with nat_eq path (codes "/")
-
--- A path of the words, without empty parts and parts `.`, so that `.` and the empty path name the whole folder.
-abbrev pub normal_path : List ℕ → List ℕ
-normal_path path = join_with_byte 47 (filter is_proper_part (parts_of path))
 
 -- without the last part
 abbrev pub parent_of : List (List ℕ) → List (List ℕ)

@@ -1,5 +1,5 @@
 -- What values mean: each form of value, and none where a value has another form.
-use Rattle.std.specs.Prelude.{ℕ, ℤ, pos, negsuc, ◌&&◌, nat_le, if◌then◌else◌, Bool, List, [], Option, Some, None, codes}
+use Rattle.std.specs.Prelude.{ℕ, ℤ, pos, negsuc, ◌&&◌, nat_le, if◌then◌else◌, Bool, List, Option, Some, None, codes}
 use Rattle.std.specs.Str.{bytes_eq}
 use Rattle.stan_model_neon.specs.declared.node.Node.{Node, out-Node}
 use Rattle.stan_model_neon.specs.declared.node.Node.TheOpen.{Node-F}

@@ -7,7 +7,8 @@ ghost use Rattle.stan_paths.specs.Paths.{normal_path};
 use stan_base::OutOfMemory;
 use std::alloc::{AllocError, Global};
 
-fn is_proper_part(part: &str) -> bool
+/// Whether a part of a path is neither empty nor `.`.
+pub fn is_proper_part(part: &str) -> bool
     ensures { result ≡ is_proper_part part.now }
 {
     part != "" && part != "."

@@ -1,7 +1,6 @@
 use Rattle.std.proofs.Common.{◌≡◌, ◌∙◌, ap, refl, Bool, true, false, cond, Option, Some, is_some}
 use Rattle.std.specs.Str.{bytes_eq}
 use Rattle.std.proofs.lemmas.Map.Text.{btree_map_updates_str}
-use Rattle.stan_config_paths.specs.TextSet.{has}
 use Rattle.stan_config_paths.proofs.text_set.TextSet.add.Goals as goal
 
 some_or : (b : Bool) (o : Option Bool) → is_some (cond b (Some true) o) ≡ cond b true (is_some o)
