@@ -1,0 +1,10 @@
+pub mod Again
+pub mod Commuting
+pub mod Counts
+pub mod Normals
+pub mod Ranges
+pub mod Rising
+pub mod Settling
+pub mod Sorting
+pub mod Tests
+pub mod Wholes

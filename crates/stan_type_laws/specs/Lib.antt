@@ -1,0 +1,5 @@
+pub mod Breaks
+pub mod Laws
+pub mod Members
+pub mod Settled
+pub mod Tests

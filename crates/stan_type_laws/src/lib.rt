@@ -1,0 +1,4 @@
+//! Laws of the union of types, and of tests on them.
+#![tactic(auto)]
+
+pub mod laws;
