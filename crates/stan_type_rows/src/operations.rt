@@ -1,10 +1,11 @@
 //! Words that take types, and words with names.
 
-use crate::parts::{bytes_of, ints};
+use crate::parts::{bytes_of, filter, ints};
 use sqlite_items::Items;
 use stan_base::{Name, OutOfMemory};
 use stan_rows::number;
 use stan_type::{Field, Key, Part, PhpType, one, union};
+use stan_type_filters::{keep, without};
 use std::alloc::Global;
 
 /// What a word makes of the last types: their union, an array, or a class-string.
@@ -75,7 +76,8 @@ fn array(
 }
 
 /// The type of a word with a name, `=` and fields: `=C`, `static=C`, `meet=A&B`, `object=C:2` for an object of the last two types,
-/// `template=f:T` for one whose bound is the last type, `shape=a,b?,0` for a shape of the last three.
+/// `template=f:T` for one whose bound is the last type, `shape=a,b?,0` for a shape of the last three; `keep=int` and `without=int` are
+/// what a test keeps of the last type, and what it takes away.
 pub fn named(
     alloc: Global,
     types: &mut Vec<PhpType>,
@@ -83,6 +85,8 @@ pub fn named(
     fields: &str,
 ) -> Result<Option<PhpType>, OutOfMemory> {
     let part = match name {
+        "keep" => return tested(alloc, types, fields, true),
+        "without" => return tested(alloc, types, fields, false),
         "" => Some(object(alloc, fields, Vec::new(alloc))?),
         "static" => Some(Part::Static(name_of(alloc, fields)?)),
         "meet" => Some(Part::Meeting(names_of(alloc, fields)?)),
@@ -94,6 +98,25 @@ pub fn named(
     match part {
         None => Ok(None),
         Some(part) => Ok(Some(one(alloc, part)?)),
+    }
+}
+
+fn tested(
+    alloc: Global,
+    types: &mut Vec<PhpType>,
+    word: &str,
+    kept: bool,
+) -> Result<Option<PhpType>, OutOfMemory> {
+    let Some(filter) = filter(alloc, word)? else {
+        return Ok(None);
+    };
+    let Some(last) = types.pop() else {
+        return Ok(None);
+    };
+    if kept {
+        Ok(Some(keep(alloc, &last, &filter)?))
+    } else {
+        Ok(Some(without(alloc, &last, &filter)?))
     }
 }
 

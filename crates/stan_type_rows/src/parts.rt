@@ -4,6 +4,7 @@ use sqlite_items::Items;
 use stan_base::OutOfMemory;
 use stan_rows::plain;
 use stan_type::{Part, StringForm};
+use stan_type_filters::Filter;
 use std::alloc::Global;
 
 /// The bytes of a name, a literal or a key.
@@ -82,5 +83,32 @@ fn bound(word: &str) -> Option<i64> {
         "min" => Some(i64::MIN),
         "max" => Some(i64::MAX),
         _ => word.parse::<i64>().ok(),
+    }
+}
+
+/// What a word asks: a kind, whether a value counts as true, or one part, as `is:5`.
+pub fn filter(alloc: Global, word: &str) -> Result<Option<Filter>, OutOfMemory> {
+    match word.strip_prefix("is:") {
+        None => Ok(kind(word)),
+        Some(value) => match part(alloc, value)? {
+            None => Ok(None),
+            Some(part) => Ok(Some(Filter::Literal(part))),
+        },
+    }
+}
+
+fn kind(word: &str) -> Option<Filter> {
+    match word {
+        "null" => Some(Filter::Null),
+        "bool" => Some(Filter::Bool),
+        "int" => Some(Filter::Int),
+        "float" => Some(Filter::Float),
+        "string" => Some(Filter::Str),
+        "array" => Some(Filter::Array),
+        "object" => Some(Filter::Object),
+        "callable" => Some(Filter::Callable),
+        "truthy" => Some(Filter::Truthy),
+        "falsy" => Some(Filter::Falsy),
+        _ => None,
     }
 }

@@ -10,7 +10,7 @@ use stan_type_text::text;
 use std::alloc::Global;
 
 /// The folders of rows.
-pub const FOLDERS: [(&str, Kind); 8] = [
+pub const FOLDERS: [(&str, Kind); 10] = [
     ("kinds", Kind::Text),
     ("ints", Kind::Text),
     ("strings", Kind::Text),
@@ -18,6 +18,8 @@ pub const FOLDERS: [(&str, Kind); 8] = [
     ("mixed", Kind::Text),
     ("bytes", Kind::Text),
     ("limits", Kind::Text),
+    ("keeps", Kind::Text),
+    ("leaves", Kind::Text),
     ("sizes", Kind::Size),
 ];
 
