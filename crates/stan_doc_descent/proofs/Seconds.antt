@@ -238,8 +238,8 @@ module _ (ts : List DocToken) where
   range_beaten g ps at e b h i =
       let x = range_run g at e h in
       elim (name_run ps at b i) [
-        | inl same ↦ inr (omega (arith, x.5, same), subst (λ z. has (goes (sort_of name)) (kind_at ts z) ≡ true) same (rw x.0 refl))
-        | inr n ↦ inl (omega (arith, in_angles n.0 n.1 (at + 1) b n.2 n.3 x.1 x.2 x.3 x.4, x.5), omega arith)
+        | inl same ↦ (omega arith, inr (omega (arith, x.5, same), subst (λ z. has (goes (sort_of name)) (kind_at ts z) ≡ true) same (rw x.0 refl)))
+        | inr n ↦ (omega arith, inl (omega (arith, in_angles n.0 n.1 (at + 1) b n.2 n.3 x.1 x.2 x.3 x.4, x.5)))
       ]
 
   -- ---- conditions
@@ -350,9 +350,9 @@ module _ (ts : List DocToken) where
   beaten shape member g ps at e b s h i = absurd (shape_member g ps at e b h i)
   beaten range member g ps at e b s h i = absurd (range_member g ps at e b h i)
   beaten callable_type member g ps at e b s h i = absurd (callable_member g ps at e b h i)
-  beaten shape name g ps at e b s h i = inr (shape_beaten g ps at e b h i)
+  beaten shape name g ps at e b s h i = (omega arith, inr (shape_beaten g ps at e b h i))
   beaten range name g ps at e b s h i = range_beaten g ps at e b h i
-  beaten callable_type name g ps at e b s h i = inr (callable_beaten g ps at e b h i)
-  beaten member name g ps at e b s h i = inr (member_beaten g ps at e b h i)
-  beaten keyed plain_field g ps at e b s h i = inr (key_beaten g ps at e b h i)
+  beaten callable_type name g ps at e b s h i = (omega arith, inr (callable_beaten g ps at e b h i))
+  beaten member name g ps at e b s h i = (omega arith, inr (member_beaten g ps at e b h i))
+  beaten keyed plain_field g ps at e b s h i = (omega arith, inr (key_beaten g ps at e b h i))
   beaten q r g ps at e b s h i = absurd cc

@@ -1,5 +1,6 @@
 -- What the descent reads, where what it reads of parts is right.
 use Rattle.std.specs.Prelude.{◌≡◌, ◌⊎◌, ℕ, ◌≤◌, ◌<◌, true, false, List, ◌∷◌, length, Option, Some}
+use Rattle.stan_model_doc.specs.declared.token.DocKind.{DocKind}
 use Rattle.stan_model_doc.specs.declared.token.DocToken.{DocToken}
 use Rattle.stan_model_doc.specs.Tokens.{kind_at, has}
 use Rattle.stan_model_doc.specs.Symbols.{Sort, Symbol}
@@ -14,9 +15,13 @@ use Rattle.stan_doc_descent.specs.Tables.{goes, ends, fine, is_special}
 abbrev pub IsSound : List DocToken → (Rule → ℕ → Read Forest) → ℕ → Type 0
 IsSound ts below n = (r : Rule) (at : ℕ) (x : Forest × ℕ) → below r at ≡ Some x → Runs ts (symbols r) x.0 at x.1 × (height x.0 < n)
 
--- What is read of symbols is as long as a tree of them and the same or better, or it is longer, and the token behind that tree is one with which they go on.
+-- The end is this place, or it is beyond it, and the token at this place is one of these kinds.
+abbrev pub Reaches : List DocToken → List DocKind → ℕ → ℕ → Type 0
+Reaches ts kinds to end = (end ≡ to) ⊎ ((to < end) × (has kinds (kind_at ts to) ≡ true))
+
+-- What is read of symbols counts before each other tree of them, or is that tree. It is as long, or longer, and the token behind that tree is one with which they go on.
 abbrev pub Reads : List DocToken → List Symbol → Forest → ℕ → Read Forest → Type 0
-Reads ts xs f to o = (x : Forest × ℕ) × (o ≡ Some x) × ((Better xs x.0 f × (x.1 ≡ to)) ⊎ ((to < x.1) × (has (ends xs) (kind_at ts to) ≡ true)))
+Reads ts xs f to o = (x : Forest × ℕ) × (o ≡ Some x) × Better xs x.0 f × Reaches ts (ends xs) to x.1
 
 -- a part that is the same, or counts before
 abbrev pub BetterPiece : Piece → Rule → Forest → Type 0
@@ -24,7 +29,7 @@ BetterPiece p r ps = (p ≡ (r, ps)) ⊎ More (left p.0 ∷ choices (symbols p.0
 
 -- the same of a part
 abbrev pub ReadsPiece : List DocToken → Sort → Rule → Forest → ℕ → Option (Piece × ℕ) → Type 0
-ReadsPiece ts s r ps b o = (x : Piece × ℕ) × (o ≡ Some x) × ((BetterPiece x.0 r ps × (x.1 ≡ b)) ⊎ ((b < x.1) × (has (goes s) (kind_at ts b) ≡ true)))
+ReadsPiece ts s r ps b o = (x : Piece × ℕ) × (o ≡ Some x) × BetterPiece x.0 r ps × Reaches ts (goes s) b x.1
 
 -- Each part that nests less than so deep is read, or a longer one.
 abbrev pub ReadsParts : List DocToken → (Rule → ℕ → Read Forest) → ℕ → Type 0
