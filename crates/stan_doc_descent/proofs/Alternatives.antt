@@ -10,7 +10,7 @@ use Rattle.stan_model_doc.specs.Grammar.{Runs}
 use Rattle.stan_model_doc.specs.Choices.{Better}
 use Rattle.stan_doc_descent.specs.Parse.{Read, first, one, run, height}
 use Rattle.stan_doc_descent.specs.Tables.{apart, subset, goes, firsts, ends, empty, is_special}
-use Rattle.stan_doc_descent.specs.Descent.{IsSound, Reaches, ReadsPiece, ReadsParts, BetterPiece}
+use Rattle.stan_doc_descent.specs.Descent.{IsSound, Reaches, Outgrown, ReadsPiece, ReadsParts, BetterPiece}
 use Rattle.stan_doc_descent.specs.Alternatives.{In, Before, Beaten, EarlierAlternativesAreLonger, ReadsProduction, ReadsProductions, PartsAreRead, PlainProductionsAreRead}
 use Rattle.stan_doc_descent.proofs.Words.{and_split, or_split, see, subset_has, apart_has, clash}
 use Rattle.stan_doc_descent.proofs.Checks.{rule_takes, rule_leads, plain_productions_are_fine}
@@ -100,9 +100,10 @@ module _ (ts : List DocToken) (below : Rule → ℕ → Read Forest) (n : ℕ) (
       let x = longest r ps at b d le h in
       (((r, x.0.0), x.0.1), rw x.1 refl, settle x.0.0 x.2, x.3)
     where
-      settle : (g : Forest) → Better (symbols r) g ps → BetterPiece (r, g) r ps
-      settle g (inl i) = inl (ap (λ z. (r, z)) (sym i))
-      settle g (inr m) = inr (inr (refl, m))
+      settle : (g : Forest) → Better (symbols r) g ps ⊎ Outgrown r ps g → BetterPiece (r, g) r ps ⊎ Outgrown r ps g
+      settle g (inl (inl i)) = inl (inl (ap (λ z. (r, z)) (sym i)))
+      settle g (inl (inr m)) = inl (inr (inr (refl, m)))
+      settle g (inr o) = inr o
 
   first_longest : (rs : List Rule) (r : Rule) (ps : Forest) (at b : ℕ) → ordered rs ≡ true → In r rs → height ps < n → b ≤ length ts → Runs ts (symbols r) ps at b → ReadsPiece ts (sort_of r) r ps b (first ts below rs at)
   first_longest [] r ps at b w i d le h = absurd i
@@ -112,7 +113,7 @@ module _ (ts : List DocToken) (below : Rule → ℕ → Read Forest) (n : ℕ) (
     | inr f ↦
         let g = sound q at f.0 f.1 in
         let v = beats ts q r f.0.0 ps at f.0.1 b (won q r rs (and_split (clear q rs) (ordered rs) w).0 i) g.0 h in
-        (((q, f.0.0), f.0.1), rw f.1 refl, inr (inl v.0), v.1)
+        (((q, f.0.0), f.0.1), rw f.1 refl, inl (inr (inl v.0)), v.1)
   ]
 
   parts : ReadsParts ts below n
@@ -122,7 +123,7 @@ module _ (ts : List DocToken) (below : Rule → ℕ → Read Forest) (n : ℕ) (
   plain : (r : Rule) (ps : Forest) (at b : ℕ) → is_special r ≡ false → height ps ≤ n → b ≤ length ts → Runs ts (symbols r) ps at b → ReadsProduction ts r ps b (run ts below (symbols r) at)
   plain r ps at b p d le h =
       let x = descent_reads_the_longest ts below n sound parts (symbols r) ps at b (plain_productions_are_fine r p) d le h in
-      (x.0, x.1, x.2, settle x.0.1 x.3)
+      (x.0, x.1, inl x.2, settle x.0.1 x.3)
     where
       settle : (end : ℕ) → Reaches ts (ends (symbols r)) b end → Reaches ts (goes (sort_of r)) b end
       settle end (inl i) = inl i

@@ -15,7 +15,7 @@ use Rattle.stan_doc_descent.specs.Alternatives.{ReadsProduction, FieldsAreRead}
 use Rattle.stan_doc_descent.proofs.Words.{see, subset_has, apart_has, clash}
 use Rattle.stan_doc_descent.proofs.Runs.{starts, rises, rule_starts, taken}
 use Rattle.stan_doc_descent.proofs.Preferred.{none_better, one_better, many_better, longer_better, added_better}
-use Rattle.stan_doc_descent.proofs.Reading.{one_sound, one_takes, many_sound, run_sound, many_passes, passes, are_items, same_size, larger, no_items, descent_reads_the_longest}
+use Rattle.stan_doc_descent.proofs.Reading.{one_sound, one_takes, many_sound, run_sound, many_passes, passes, are_items, same_size, larger, kept, no_items, descent_reads_the_longest}
 use Rattle.stan_doc_descent.proofs.Alternatives.{parts_are_read}
 
 module _ (ts : List DocToken) (below : Rule → ℕ → Read Forest) (n : ℕ) (sound : IsSound ts below n) (parts : ReadsParts ts below n) where
@@ -110,16 +110,16 @@ module _ (ts : List DocToken) (below : Rule → ℕ → Read Forest) (n : ℕ) (
             rw q.1 (rw e (lift (many ts below FurtherField (λ b. run ts below Last b) m h.0) Tail Tail f (some r ps f) (standing q.0.0) to
             (λ x is i. many_better FurtherField Last q.0.0 r ps f x.0 (are_items ts below n sound parts FurtherField Last f h.0 to h.3)
             (are_items ts below n sound parts FurtherField Last x.0 h.0 x.1 (many_sound ts below n sound FurtherField Last (λ b. run ts below Last b) (λ b y z. run_sound ts below n sound Last b y z) m h.0 x is).0)
-            (same_size ts below n sound parts FurtherField r ps at h.0 q.0 q.1 h.2 e) q.2 i) rec))
+            (same_size ts below n sound parts FurtherField r ps at h.0 q.0 q.1 h.2 e) (kept ts below n sound parts FurtherField r ps at h.0 q.0 q.1 h.2 e q.2) i) rec))
         | inr w ↦
             let same = ended f h.0 to FurtherField refl w.1 h.3 in
             rw q.1 (beyond (many ts below FurtherField (λ b. run ts below Last b) m q.0.1) Tail (some r ps f) (standing q.0.0) q.0.1 to (omega (arith, same, w.0))
             (subst Goes same (subset_has (goes FurtherField) (goes Fields) (kind_at ts h.0) refl w.1))
-            (λ x. longer_better Many FurtherField Last q.0.0 r ps f x q.2 (larger ts below n sound parts FurtherField r ps at h.0 q.0 q.1 h.2 w.0) (no_items ts below n sound parts Tail f h.0 to h.3 same)) (passes_tail m q.0.1))
+            (λ x. longer_better Many FurtherField Last q.0.0 r ps f x refl h.1 q.2 (larger ts below n sound parts FurtherField r ps at h.0 q.0 q.1 h.2 w.0) (no_items ts below n sound parts Tail f h.0 to h.3 same)) (passes_tail m q.0.1))
       ]
   tail f (suc m) at to d le lt h = absurd h
 
-  all : (ps : Forest) (at b : ℕ) → height ps ≤ n → b ≤ length ts → Runs ts (symbols fields) ps at b → ReadsProduction ts fields ps b (run ts below (symbols fields) at)
+  all : (ps : Forest) (at b : ℕ) → height ps ≤ n → b ≤ length ts → Runs ts (symbols fields) ps at b → Is (symbols fields) ps b (run ts below (symbols fields) at)
   unfolding same_kind
   all (some r ps f) at to d le h =
       let up = rises ts Tail f h.0 to h.3 in
@@ -127,15 +127,17 @@ module _ (ts : List DocToken) (below : Rule → ℕ → Read Forest) (n : ℕ) (
       elim q.3 [
         | inl e ↦
             let rec = tail f (length ts + 1) h.0 to (omega (arith, d)) le (omega (arith, le)) h.3 in
-            rw q.1 (rw e (lift (run ts below Tail h.0) Tail (symbols fields) f (some r ps f) (standing q.0.0) to (λ x is i. one_better Field Tail q.0.0 r ps f x.0 q.2 i) rec))
+            rw q.1 (rw e (lift (run ts below Tail h.0) Tail (symbols fields) f (some r ps f) (standing q.0.0) to (λ x is i. one_better Field Tail q.0.0 r ps f x.0 (kept ts below n sound parts Field r ps at h.0 q.0 q.1 h.2 e q.2) i) rec))
         | inr w ↦
             let same = ended f h.0 to Field refl w.1 h.3 in
             rw q.1 (beyond (run ts below Tail q.0.1) (symbols fields) (some r ps f) (standing q.0.0) q.0.1 to (omega (arith, same, w.0))
             (subst Goes same (subset_has (goes Field) (goes Fields) (kind_at ts h.0) refl w.1))
-            (λ x. longer_better One Field Tail q.0.0 r ps f x q.2 (larger ts below n sound parts Field r ps at h.0 q.0 q.1 h.2 w.0) (no_items ts below n sound parts Tail f h.0 to h.3 same)) (passes_tail (length ts + 1) q.0.1))
+            (λ x. longer_better One Field Tail q.0.0 r ps f x refl h.1 q.2 (larger ts below n sound parts Field r ps at h.0 q.0 q.1 h.2 w.0) (no_items ts below n sound parts Tail f h.0 to h.3 same)) (passes_tail (length ts + 1) q.0.1))
       ]
   all (none f) at to d le h = absurd (let w = h.0 in cc)
   all f at to d le h = absurd h
 
 pub fields_are_read : FieldsAreRead
-fields_are_read ts below n sound longest ps at b d le h = all ts below n sound (parts_are_read ts below n sound longest) ps at b d le h
+fields_are_read ts below n sound longest ps at b d le h =
+    let x = all ts below n sound (parts_are_read ts below n sound longest) ps at b d le h in
+    (x.0, x.1, inl x.2, x.3)

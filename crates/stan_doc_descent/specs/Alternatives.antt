@@ -7,7 +7,7 @@ use Rattle.stan_model_doc.specs.Grammar.{Runs}
 use Rattle.stan_model_doc.specs.Choices.{Better, left}
 use Rattle.stan_doc_descent.specs.Parse.{Read, run, height}
 use Rattle.stan_doc_descent.specs.Tables.{goes, is_special}
-use Rattle.stan_doc_descent.specs.Descent.{IsSound, Reaches, ReadsParts}
+use Rattle.stan_doc_descent.specs.Descent.{IsSound, Reaches, Outgrown, ReadsParts}
 
 abbrev pub In : Rule → List Rule → Type 0
 In r [] = ⊥
@@ -28,7 +28,7 @@ EarlierAlternativesAreLonger = (ts : List DocToken) (q r : Rule) (g ps : Forest)
 
 -- What is read of a production counts before each other tree of it, or is that tree. It is as long, or longer, and the token behind that tree is one with which a part of its sort goes on.
 abbrev pub ReadsProduction : List DocToken → Rule → Forest → ℕ → Read Forest → Type 0
-ReadsProduction ts r ps b o = (x : Forest × ℕ) × (o ≡ Some x) × Better (symbols r) x.0 ps × Reaches ts (goes (sort_of r)) b x.1
+ReadsProduction ts r ps b o = (x : Forest × ℕ) × (o ≡ Some x) × (Better (symbols r) x.0 ps ⊎ Outgrown r ps x.0) × Reaches ts (goes (sort_of r)) b x.1
 
 abbrev pub ReadsProductions : List DocToken → (Rule → ℕ → Read Forest) → ℕ → Type 0
 ReadsProductions ts below n = (r : Rule) (ps : Forest) (at b : ℕ) → height ps < n → b ≤ length ts → Runs ts (symbols r) ps at b → ReadsProduction ts r ps b (below r at)

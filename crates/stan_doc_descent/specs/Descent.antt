@@ -4,10 +4,10 @@ use Rattle.stan_model_doc.specs.declared.token.DocKind.{DocKind}
 use Rattle.stan_model_doc.specs.declared.token.DocToken.{DocToken}
 use Rattle.stan_model_doc.specs.Tokens.{kind_at, has}
 use Rattle.stan_model_doc.specs.Symbols.{Sort, Symbol}
-use Rattle.stan_model_doc.specs.Rules.{Rule, symbols, sort_of}
+use Rattle.stan_model_doc.specs.Rules.{Rule, default_value, symbols, sort_of}
 use Rattle.stan_model_doc.specs.Trees.{Forest}
 use Rattle.stan_model_doc.specs.Grammar.{Runs}
-use Rattle.stan_model_doc.specs.Choices.{Better, left, choices, More}
+use Rattle.stan_model_doc.specs.Choices.{Better, left, choices, More, size}
 use Rattle.stan_doc_descent.specs.Parse.{Read, Piece, one, run, height}
 use Rattle.stan_doc_descent.specs.Tables.{goes, ends, fine, is_special}
 
@@ -27,9 +27,13 @@ Reads ts xs f to o = (x : Forest × ℕ) × (o ≡ Some x) × Better xs x.0 f ×
 abbrev pub BetterPiece : Piece → Rule → Forest → Type 0
 BetterPiece p r ps = (p ≡ (r, ps)) ⊎ More (left p.0 ∷ choices (symbols p.0) p.1) (left r ∷ choices (symbols r) ps)
 
+-- A longer text of any tokens is no better tree: it has no choices. It is only longer.
+abbrev pub Outgrown : Rule → Forest → Forest → Type 0
+Outgrown r ps x = (r ≡ default_value) × (size ps < size x)
+
 -- the same of a part
 abbrev pub ReadsPiece : List DocToken → Sort → Rule → Forest → ℕ → Option (Piece × ℕ) → Type 0
-ReadsPiece ts s r ps b o = (x : Piece × ℕ) × (o ≡ Some x) × BetterPiece x.0 r ps × Reaches ts (goes s) b x.1
+ReadsPiece ts s r ps b o = (x : Piece × ℕ) × (o ≡ Some x) × (BetterPiece x.0 r ps ⊎ Outgrown r ps x.0.1) × Reaches ts (goes s) b x.1
 
 -- Each part that nests less than so deep is read, or a longer one.
 abbrev pub ReadsParts : List DocToken → (Rule → ℕ → Read Forest) → ℕ → Type 0
