@@ -4,7 +4,7 @@ use Rattle.std.specs.Prelude.{◌||◌}
 use Rattle.stan_model_doc.specs.declared.token.DocKind.{DocKind}
 use Rattle.stan_model_doc.specs.Tokens.{same_kind, has}
 use Rattle.stan_model_doc.specs.Rules.{Rule, conditional, param_tag, method_tag, default_value, fields, suffixed, symbols, sort_of}
-use Rattle.stan_doc_descent.specs.Tables.{begins, empty, firsts, leads, subset}
+use Rattle.stan_doc_descent.specs.Tables.{begins, goes, rule_goes, empty, firsts, leads, subset}
 use Rattle.stan_doc_descent.specs.Descent.{PlainProductionsAreFine}
 use Rattle.stan_doc_descent.proofs.Words.{or_right}
 
@@ -30,6 +30,11 @@ pub rule_begins : (r : Rule) → subset (firsts (symbols r)) (begins (sort_of r)
 unfolding same_kind
 rule_begins param_tag = refl
 rule_begins r = refl
+
+pub rule_part : (r : Rule) → subset (rule_goes r) (goes (sort_of r)) ≡ true
+unfolding same_kind
+rule_part param_tag = refl
+rule_part r = refl
 
 -- ---- lists of kinds
 

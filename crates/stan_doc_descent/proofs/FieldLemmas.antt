@@ -11,11 +11,11 @@ use Rattle.stan_model_doc.specs.Choices.{Better, size}
 use Rattle.stan_doc_descent.specs.Parse.{Read, ◌>>=◌, onto, standing, one, many, run, height}
 use Rattle.stan_doc_descent.specs.Tables.{begins, goes, firsts, apart, ends}
 use Rattle.stan_doc_descent.specs.Descent.{IsSound, Reaches, ReadsParts}
-use Rattle.stan_doc_descent.specs.Alternatives.{ReadsProduction, FieldsAreRead}
+use Rattle.stan_doc_descent.specs.Alternatives.{FieldsAreRead}
 use Rattle.stan_doc_descent.proofs.Words.{see, subset_has, apart_has, clash}
 use Rattle.stan_doc_descent.proofs.Runs.{starts, rises, rule_starts, taken}
 use Rattle.stan_doc_descent.proofs.Preferred.{none_better, one_better, many_better, longer_better, added_better}
-use Rattle.stan_doc_descent.proofs.Reading.{one_sound, one_takes, many_sound, run_sound, many_passes, passes, are_items, same_size, larger, kept, no_items, descent_reads_the_longest}
+use Rattle.stan_doc_descent.proofs.Reading.{one_sound, one_longest, one_takes, many_sound, run_sound, many_passes, passes, are_items, same_size, larger, kept, no_items, descent_reads_the_longest}
 use Rattle.stan_doc_descent.proofs.Alternatives.{parts_are_read}
 
 module _ (ts : List DocToken) (below : Rule → ℕ → Read Forest) (n : ℕ) (sound : IsSound ts below n) (parts : ReadsParts ts below n) where
@@ -103,7 +103,7 @@ module _ (ts : List DocToken) (below : Rule → ℕ → Read Forest) (n : ℕ) (
   tail (some r ps f) (suc m) at to d le lt h =
       let up = rises ts Tail f h.0 to h.3 in
       let less = (rule_starts ts r ps at h.0 h.2).0 in
-      let q = parts FurtherField r ps at h.0 h.1 (omega (arith, d)) (omega (arith, up, le)) h.2 in
+      let q = one_longest ts below n sound parts FurtherField r ps at h.0 h.1 (omega (arith, d)) (omega (arith, up, le)) h.2 in
       elim q.3 [
         | inl e ↦
             let rec = tail f m h.0 to (omega (arith, d)) le (omega (arith, lt, less)) h.3 in
@@ -123,7 +123,7 @@ module _ (ts : List DocToken) (below : Rule → ℕ → Read Forest) (n : ℕ) (
   unfolding same_kind
   all (some r ps f) at to d le h =
       let up = rises ts Tail f h.0 to h.3 in
-      let q = parts Field r ps at h.0 h.1 (omega (arith, d)) (omega (arith, up, le)) h.2 in
+      let q = one_longest ts below n sound parts Field r ps at h.0 h.1 (omega (arith, d)) (omega (arith, up, le)) h.2 in
       elim q.3 [
         | inl e ↦
             let rec = tail f (length ts + 1) h.0 to (omega (arith, d)) le (omega (arith, le)) h.3 in

@@ -110,12 +110,16 @@ items_in (any n f) = omega arith
 items_in (none f) = omega arith
 items_in (some r ps f) = omega (arith, items_in f)
 
+-- a longer part is better, if it is no text of any tokens
+pub one_longer : (s : Sort) (xs : List Symbol) (p : Piece) (r : Rule) (ps f x : Forest) → settled One s ≡ true → sort_of r ≡ s → BetterPiece p r ps ⊎ Outgrown r ps p.1 → size ps < size p.1 → Better (Part One s ∷ xs) (standing p x) (some r ps f)
+one_longer s xs p r ps f x t is (inl (inl i)) lt = absurd (let same = ap (λ (q : Piece). size q.1) i in omega (arith, lt, same))
+one_longer s xs p r ps f x t is (inr o) lt = absurd (let w = subst (λ z. settled One z ≡ true) (sym is) t in let v = subst (λ z. settled One (sort_of z) ≡ true) o.0 w in cc)
+one_longer s xs p r ps f x t is (inl (inr m)) lt = inr (more_front (left p.0 ∷ choices (symbols p.0) p.1) (left r ∷ choices (symbols r) ps) (choices xs x) (choices xs f) m)
+
 -- a longer part is better, where no item of the same part stands behind the shorter one
 pub longer_better : (need : Need) (s : Sort) (xs : List Symbol) (p : Piece) (r : Rule) (ps f x : Forest) → settled need s ≡ true → sort_of r ≡ s → BetterPiece p r ps ⊎ Outgrown r ps p.1 → size ps < size p.1 → items_size f ≡ 0
     → Better (Part need s ∷ xs) (standing p x) (some r ps f)
-longer_better One s xs p r ps f x t is (inl (inl i)) lt e = absurd (let same = ap (λ (q : Piece). size q.1) i in omega (arith, lt, same))
-longer_better One s xs p r ps f x t is (inr o) lt e = absurd (let w = subst (λ z. settled One z ≡ true) (sym is) t in let v = subst (λ z. settled One (sort_of z) ≡ true) o.0 w in cc)
-longer_better One s xs p r ps f x t is (inl (inr m)) lt e = inr (more_front (left p.0 ∷ choices (symbols p.0) p.1) (left r ∷ choices (symbols r) ps) (choices xs x) (choices xs f) m)
+longer_better One s xs p r ps f x t is i lt e = one_longer s xs p r ps f x t is i lt
 longer_better May s xs p r ps f x t is i lt e = inr (inl lt)
 longer_better Many s xs p r ps f x t is i lt e = inr (inl (omega (arith, lt, e)))
 

@@ -10,10 +10,10 @@ use Rattle.stan_model_doc.specs.Trees.{Forest, nil, mark, word, any, none, some}
 use Rattle.stan_model_doc.specs.Grammar.{Runs, is_closer}
 use Rattle.stan_model_doc.specs.Choices.{Better, size, items_size}
 use Rattle.stan_doc_descent.specs.Parse.{Read, ◌>>=◌, onto, Piece, standing, after, after_of, word_at, word_of, any_at, first, one, many, run, height}
-use Rattle.stan_doc_descent.specs.Tables.{begins, goes, empty, firsts, leads, ends, fine, is_end, closes, settled, apart}
-use Rattle.stan_doc_descent.specs.Descent.{BetterPiece, Outgrown, Reaches, ReadsPiece, ReadsParts, DescentIsSound, DescentReadsTheLongest}
-use Rattle.stan_doc_descent.proofs.Words.{and_split, some_is, see, same_is, apart_has, clash}
-use Rattle.stan_doc_descent.proofs.Checks.{has_left, has_right}
+use Rattle.stan_doc_descent.specs.Tables.{begins, goes, rule_goes, empty, firsts, leads, ends, fine, is_end, closes, settled, apart}
+use Rattle.stan_doc_descent.specs.Descent.{BetterPiece, Outgrown, Reaches, ReadsParts, DescentIsSound, DescentReadsTheLongest}
+use Rattle.stan_doc_descent.proofs.Words.{subset_has, and_split, some_is, see, same_is, apart_has, clash}
+use Rattle.stan_doc_descent.proofs.Checks.{rule_part, has_left, has_right}
 use Rattle.stan_doc_descent.proofs.Runs.{starts, rises, rule_starts, after_at, taken}
 use Rattle.stan_doc_descent.proofs.Texts.{any_at_is, any_there}
 use Rattle.stan_doc_descent.proofs.Preferred.{mark_better, word_better, any_better, none_better, one_better, may_better, many_better, items_in, longer_better, added_better, IsItems}
@@ -144,8 +144,13 @@ module _ (ts : List DocToken) (below : Rule → ℕ → Read Forest) (n : ℕ)
   run_sound (Part Many s ∷ xs) at y h = many_sound s xs (λ b. run ts below xs b) (λ b x e. run_sound xs b x e) (length ts + 1) at y h
 
   module _ (parts : ReadsParts ts below n) where
-    one_longest : (s : Sort) (r : Rule) (ps : Forest) (at b : ℕ) → sort_of r ≡ s → height ps < n → b ≤ length ts → Runs ts (symbols r) ps at b → ReadsPiece ts s r ps b (one ts below s at)
-    one_longest = parts
+    pub one_longest : (s : Sort) (r : Rule) (ps : Forest) (at b : ℕ) → sort_of r ≡ s → height ps < n → b ≤ length ts → Runs ts (symbols r) ps at b
+        → (x : Piece × ℕ) × (one ts below s at ≡ Some x) × (BetterPiece x.0 r ps ⊎ Outgrown r ps x.0.1) × Reaches ts (goes s) b x.1
+    one_longest s r ps at b is d le h = let q = parts s r ps at b is d le h in (q.0, q.1, q.2, settle q.0.1 q.3)
+      where
+        settle : (end : ℕ) → Reaches ts (rule_goes r) b end → Reaches ts (goes s) b end
+        settle end (inl e) = inl e
+        settle end (inr w) = inr (w.0, subst (λ z. has (goes z) (kind_at ts b) ≡ true) is (subset_has (rule_goes r) (goes (sort_of r)) (kind_at ts b) (rule_part r) w.1))
 
     -- ---- symbols
 

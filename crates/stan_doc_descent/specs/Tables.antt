@@ -4,7 +4,7 @@ use Rattle.stan_model_doc.specs.declared.token.DocKind.{DocKind}
 use Rattle.stan_model_doc.specs.declared.token.DocKind.TheVariants as k
 use Rattle.stan_model_doc.specs.Tokens.{has}
 use Rattle.stan_model_doc.specs.Symbols.{Sort, Tag, VariableName, Reference, Spread, StaticWord, Parameters, Parameter, FurtherParameter, Default, Bound, Written, Negation, Alt, OrPart, Both, AndPart, Unary, Brackets, Atom, Result, Arguments, FurtherType, Fields, Field, FurtherField, LastComma, QuestionMark, Need, One, Symbol, Mark, Word, Any, Part, lacks, rest}
-use Rattle.stan_model_doc.specs.Rules.{Rule, names, variables, literals, conditional, param_tag, method_tag, default_value, fields, suffixed}
+use Rattle.stan_model_doc.specs.Rules.{Rule, names, variables, literals, conditional, param_tag, method_tag, default_value, fields, suffixed, group, this, literal, shape, range, member, name, sort_of}
 use Rattle.stan_model_doc.specs.Grammar.{is_closer}
 
 -- ---- kinds
@@ -104,6 +104,17 @@ goes Field = field_goes
 goes FurtherField = field_goes
 goes LastComma = []
 goes QuestionMark = []
+
+-- The same of one production. An atom goes on behind a name and behind a callable, but never with `[` behind a name.
+abbrev pub rule_goes : Rule → List DocKind
+rule_goes group = []
+rule_goes this = []
+rule_goes literal = []
+rule_goes shape = []
+rule_goes range = []
+rule_goes member = []
+rule_goes name = k.Below ∷ k.LeftBrace ∷ k.LeftParenthesis ∷ k.DoubleColon ∷ []
+rule_goes r = goes (sort_of r)
 
 -- ---- the tests
 
