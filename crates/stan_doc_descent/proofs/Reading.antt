@@ -22,7 +22,7 @@ pub bind_ok : {A B : Type 0} (r : Option A) (f : A → Option B) (y : B) → (r 
 bind_ok (Some x) f y e = (x, refl, e)
 bind_ok None f y e = absurd cc
 
-onto_is : (r : Read Forest) (f : Forest → Forest) (y : Forest × ℕ) → (r >>= onto f) ≡ Some y → (x : Forest × ℕ) × (r ≡ Some x) × (y.0 ≡ f x.0) × (y.1 ≡ x.1)
+pub onto_is : (r : Read Forest) (f : Forest → Forest) (y : Forest × ℕ) → (r >>= onto f) ≡ Some y → (x : Forest × ℕ) × (r ≡ Some x) × (y.0 ≡ f x.0) × (y.1 ≡ x.1)
 onto_is (Some x) f y e = let same = some_is (f x.0, x.1) y e in (x, refl, sym (ap (λ (p : Forest × ℕ). p.0) same), sym (ap (λ (p : Forest × ℕ). p.1) same))
 onto_is None f y e = absurd cc
 
