@@ -1,1 +1,3 @@
 pub mod BracketLemmas
+pub mod Prefixes
+pub mod ConditionLemmas
