@@ -26,7 +26,7 @@ use Rattle.stan_doc_conditions.specs.Conditions.{Second, Branches, Test, Negatab
 use Rattle.stan_doc_conditions.proofs.BracketLemmas.{brackets_end_once}
 use Rattle.stan_doc_conditions.proofs.Prefixes.{agreed, prefix_agrees, agrees_prefix, prefix_ends}
 
-in_order : (a b : ℕ) → (a ≤ b) ⊎ (b < a)
+pub in_order : (a b : ℕ) → (a ≤ b) ⊎ (b < a)
 in_order zero b = inl (omega arith)
 in_order (suc a) zero = inr (omega arith)
 in_order (suc a) (suc b) = elim (in_order a b) [ inl le ↦ inl (omega (arith, le)) | inr lt ↦ inr (omega (arith, lt)) ]
@@ -156,7 +156,7 @@ module _ (ts : List DocToken) (below : List DocToken → Rule → ℕ → Read F
         let up = rises ts Second g c to i in
         let short : c ≤ length ts = omega (arith, up, le) in
         let full = length-take-le c ts short in
-        let q = parts (take c ts) Written r a at c s d (omega (arith, full)) (agreed ts (take c ts) c (agrees_prefix ts c short) (symbols r) a at c (omega arith) h) in
+        let q = parts (take c ts) Written r a at c refl s d (omega (arith, full)) (agreed ts (take c ts) c (agrees_prefix ts c short) (symbols r) a at c (omega arith) h) in
         let e = at_end (take c ts) r c q.0.1 s (prefix_ends ts c short) q.3 in
         let x = descent_reads_the_longest ts (below ts) n (sound ts) (parts ts) Second g c to refl l le i in
         let first = kept (take c ts) (below (take c ts)) n (sound (take c ts)) (parts (take c ts)) Written r a at c q.0 q.1 (agreed ts (take c ts) c (agrees_prefix ts c short) (symbols r) a at c (omega arith) h) e q.2 in (
@@ -172,7 +172,7 @@ module _ (ts : List DocToken) (below : List DocToken → Rule → ℕ → Read F
         let p = parted_is at m y le is in
         let full = length-take-le m ts le in
         let there = agreed ts (take m ts) m (agrees_prefix ts m le) (symbols r) a at c (omega (arith, lt)) h in
-        let q = parts (take m ts) Written r a at c s d (omega (arith, full, lt)) there in
+        let q = parts (take m ts) Written r a at c refl s d (omega (arith, full, lt)) there in
         let same = some_is q.0 (p.0, m) (sym q.1 ∙ p.2) in
         let better = subst (λ (z : Piece × ℕ). BetterPiece z.0 r a ⊎ Outgrown r a z.0.1) same q.2 in
         let more = larger (take m ts) (below (take m ts)) n (sound (take m ts)) (parts (take m ts)) Written r a at c (p.0, m) p.2 there lt in
@@ -204,7 +204,7 @@ module _ (ts : List DocToken) (below : List DocToken → Rule → ℕ → Read F
         let c = h.3.1.0 in
         let lt = behind g c to h.3.1.3 in
         let up = rises ts Branches (some u a g) (h.0 + 1) to h.3.1 in
-        let q = one_longest ts (below ts) n (sound ts) (parts ts) Written r t at h.0 h.1 (omega (arith, d)) (omega (arith, up, le)) h.2 in
+        let q = one_longest ts (below ts) n (sound ts) (parts ts) Written r t at h.0 refl h.1 (omega (arith, d)) (omega (arith, up, le)) h.2 in
         let e = stays ts (goes Written) h.0 q.0.1 (rw h.3.0 refl) q.3 in
         let x = last_there u a g (h.0 + 1) c to (length ts) h.3.1.1 (omega (arith, d)) (omega (arith, d)) le h.3.1.2 h.3.1.3 (omega (arith, lt, le)) (omega arith) in (
           (standing q.0.0 (mark x.0.0), x.0.1),

@@ -9,7 +9,7 @@ use Rattle.stan_model_doc.specs.Trees.{Forest}
 use Rattle.stan_model_doc.specs.Grammar.{Runs}
 use Rattle.stan_model_doc.specs.Choices.{Better}
 use Rattle.stan_doc_descent.specs.Parse.{Read, first, one, run, height}
-use Rattle.stan_doc_descent.specs.Tables.{apart, subset, rule_goes, firsts, ends, empty, is_special}
+use Rattle.stan_doc_descent.specs.Tables.{apart, subset, rule_goes, firsts, ends, empty, is_tag, is_special}
 use Rattle.stan_doc_descent.specs.Descent.{IsSound, Reaches, Outgrown, ReadsPiece, ReadsParts, BetterPiece}
 use Rattle.stan_doc_descent.specs.Alternatives.{In, Before, Beaten, EarlierAlternativesAreLonger, ReadsProduction, ReadsProductions, PartsAreRead, PlainProductionsAreRead}
 use Rattle.stan_doc_descent.proofs.Words.{and_split, or_split, see, subset_has, apart_has, clash}
@@ -95,9 +95,9 @@ earlier_alternatives_are_longer ts q r g ps at e b i h j = beats ts q r g ps at 
 -- ---- parts
 
 module _ (ts : List DocToken) (below : Rule → ℕ → Read Forest) (n : ℕ) (sound : IsSound ts below n) (longest : ReadsProductions ts below n) where
-  here : (r : Rule) (ps : Forest) (at b : ℕ) (rs : List Rule) → height ps < n → b ≤ length ts → Runs ts (symbols r) ps at b → ReadsPiece ts r ps b (first ts below (r ∷ rs) at)
-  here r ps at b rs d le h =
-      let x = longest r ps at b d le h in
+  here : (r : Rule) (ps : Forest) (at b : ℕ) (rs : List Rule) → is_tag (sort_of r) ≡ false → height ps < n → b ≤ length ts → Runs ts (symbols r) ps at b → ReadsPiece ts r ps b (first ts below (r ∷ rs) at)
+  here r ps at b rs tag d le h =
+      let x = longest r ps at b tag d le h in
       (((r, x.0.0), x.0.1), rw x.1 refl, settle x.0.0 x.2, x.3)
     where
       settle : (g : Forest) → Better (symbols r) g ps ⊎ Outgrown r ps g → BetterPiece (r, g) r ps ⊎ Outgrown r ps g
@@ -105,11 +105,11 @@ module _ (ts : List DocToken) (below : Rule → ℕ → Read Forest) (n : ℕ) (
       settle g (inl (inr m)) = inl (inr (inr (refl, m)))
       settle g (inr o) = inr o
 
-  first_longest : (rs : List Rule) (r : Rule) (ps : Forest) (at b : ℕ) → ordered rs ≡ true → In r rs → height ps < n → b ≤ length ts → Runs ts (symbols r) ps at b → ReadsPiece ts r ps b (first ts below rs at)
-  first_longest [] r ps at b w i d le h = absurd i
-  first_longest (q ∷ rs) r ps at b w (inl i) d le h = subst (λ z. ReadsPiece ts r ps b (first ts below (z ∷ rs) at)) (sym i) (here r ps at b rs d le h)
-  first_longest (q ∷ rs) r ps at b w (inr i) d le h = elim (see (below q at)) [
-    | inl lack ↦ let x = first_longest rs r ps at b (and_split (clear q rs) (ordered rs) w).1 i d le h in (x.0, rw lack x.1, x.2, x.3)
+  first_longest : (rs : List Rule) (r : Rule) (ps : Forest) (at b : ℕ) → is_tag (sort_of r) ≡ false → ordered rs ≡ true → In r rs → height ps < n → b ≤ length ts → Runs ts (symbols r) ps at b → ReadsPiece ts r ps b (first ts below rs at)
+  first_longest [] r ps at b tag w i d le h = absurd i
+  first_longest (q ∷ rs) r ps at b tag w (inl i) d le h = subst (λ z. ReadsPiece ts r ps b (first ts below (z ∷ rs) at)) (sym i) (here r ps at b rs tag d le h)
+  first_longest (q ∷ rs) r ps at b tag w (inr i) d le h = elim (see (below q at)) [
+    | inl lack ↦ let x = first_longest rs r ps at b tag (and_split (clear q rs) (ordered rs) w).1 i d le h in (x.0, rw lack x.1, x.2, x.3)
     | inr f ↦
         let g = sound q at f.0 f.1 in
         let v = beats ts q r f.0.0 ps at f.0.1 b (won q r rs (and_split (clear q rs) (ordered rs) w).0 i) g.0 h in
@@ -117,8 +117,8 @@ module _ (ts : List DocToken) (below : Rule → ℕ → Read Forest) (n : ℕ) (
   ]
 
   parts : ReadsParts ts below n
-  parts s r ps at b e d le h =
-      subst (λ z. ReadsPiece ts r ps b (one ts below z at)) e (first_longest (order (sort_of r)) r ps at b (sort_ordered (sort_of r)) (listed r) d le h)
+  parts s r ps at b tag e d le h =
+      subst (λ z. ReadsPiece ts r ps b (one ts below z at)) e (first_longest (order (sort_of r)) r ps at b (subst (λ z. is_tag z ≡ false) (sym e) tag) (sort_ordered (sort_of r)) (listed r) d le h)
 
   plain : (r : Rule) (ps : Forest) (at b : ℕ) → is_special r ≡ false → height ps ≤ n → b ≤ length ts → Runs ts (symbols r) ps at b → ReadsProduction ts r ps b (run ts below (symbols r) at)
   plain r ps at b p d le h =

@@ -103,7 +103,7 @@ module _ (ts : List DocToken) (below : Rule → ℕ → Read Forest) (n : ℕ) (
   tail (some r ps f) (suc m) at to d le lt h =
       let up = rises ts Tail f h.0 to h.3 in
       let less = (rule_starts ts r ps at h.0 h.2).0 in
-      let q = one_longest ts below n sound parts FurtherField r ps at h.0 h.1 (omega (arith, d)) (omega (arith, up, le)) h.2 in
+      let q = one_longest ts below n sound parts FurtherField r ps at h.0 refl h.1 (omega (arith, d)) (omega (arith, up, le)) h.2 in
       elim q.3 [
         | inl e ↦
             let rec = tail f m h.0 to (omega (arith, d)) le (omega (arith, lt, less)) h.3 in
@@ -123,7 +123,7 @@ module _ (ts : List DocToken) (below : Rule → ℕ → Read Forest) (n : ℕ) (
   unfolding same_kind
   all (some r ps f) at to d le h =
       let up = rises ts Tail f h.0 to h.3 in
-      let q = one_longest ts below n sound parts Field r ps at h.0 h.1 (omega (arith, d)) (omega (arith, up, le)) h.2 in
+      let q = one_longest ts below n sound parts Field r ps at h.0 refl h.1 (omega (arith, d)) (omega (arith, up, le)) h.2 in
       elim q.3 [
         | inl e ↦
             let rec = tail f (length ts + 1) h.0 to (omega (arith, d)) le (omega (arith, le)) h.3 in

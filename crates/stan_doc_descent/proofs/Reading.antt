@@ -10,10 +10,10 @@ use Rattle.stan_model_doc.specs.Trees.{Forest, nil, mark, word, any, none, some}
 use Rattle.stan_model_doc.specs.Grammar.{Runs, is_closer}
 use Rattle.stan_model_doc.specs.Choices.{Better, size, items_size}
 use Rattle.stan_doc_descent.specs.Parse.{Read, ◌>>=◌, onto, Piece, standing, after, after_of, word_at, word_of, any_at, first, one, many, run, height}
-use Rattle.stan_doc_descent.specs.Tables.{begins, goes, rule_goes, empty, firsts, leads, ends, fine, is_end, closes, settled, apart}
+use Rattle.stan_doc_descent.specs.Tables.{begins, goes, rule_goes, empty, firsts, leads, ends, fine, is_end, closes, settled, is_tag, apart}
 use Rattle.stan_doc_descent.specs.Descent.{BetterPiece, Outgrown, Reaches, ReadsParts, DescentIsSound, DescentReadsTheLongest}
 use Rattle.stan_doc_descent.proofs.Words.{subset_has, and_split, some_is, see, same_is, apart_has, clash}
-use Rattle.stan_doc_descent.proofs.Checks.{rule_part, has_left, has_right}
+use Rattle.stan_doc_descent.proofs.Checks.{rule_part, part_sort, has_left, has_right}
 use Rattle.stan_doc_descent.proofs.Runs.{starts, rises, rule_starts, after_at, taken}
 use Rattle.stan_doc_descent.proofs.Texts.{any_at_is, any_there}
 use Rattle.stan_doc_descent.proofs.Preferred.{mark_better, word_better, any_better, none_better, one_better, may_better, many_better, items_in, longer_better, added_better, IsItems}
@@ -144,9 +144,9 @@ module _ (ts : List DocToken) (below : Rule → ℕ → Read Forest) (n : ℕ)
   run_sound (Part Many s ∷ xs) at y h = many_sound s xs (λ b. run ts below xs b) (λ b x e. run_sound xs b x e) (length ts + 1) at y h
 
   module _ (parts : ReadsParts ts below n) where
-    pub one_longest : (s : Sort) (r : Rule) (ps : Forest) (at b : ℕ) → sort_of r ≡ s → height ps < n → b ≤ length ts → Runs ts (symbols r) ps at b
+    pub one_longest : (s : Sort) (r : Rule) (ps : Forest) (at b : ℕ) → is_tag s ≡ false → sort_of r ≡ s → height ps < n → b ≤ length ts → Runs ts (symbols r) ps at b
         → (x : Piece × ℕ) × (one ts below s at ≡ Some x) × (BetterPiece x.0 r ps ⊎ Outgrown r ps x.0.1) × Reaches ts (goes s) b x.1
-    one_longest s r ps at b is d le h = let q = parts s r ps at b is d le h in (q.0, q.1, q.2, settle q.0.1 q.3)
+    one_longest s r ps at b tag is d le h = let q = parts s r ps at b tag is d le h in (q.0, q.1, q.2, settle q.0.1 q.3)
       where
         settle : (end : ℕ) → Reaches ts (rule_goes r) b end → Reaches ts (goes s) b end
         settle end (inl e) = inl e
@@ -311,7 +311,7 @@ module _ (ts : List DocToken) (below : Rule → ℕ → Read Forest) (n : ℕ)
         let split = and_split (apart (goes s) (firsts xs)) (fine xs) test.1 in
         let up = rises ts xs f h.0 to h.3 in
         let rec = of_head xs f h.0 to (run_longest xs f turns h.0 to split.1 (omega (arith, d)) le (omega (arith, le)) h.3) in
-        let q = one_longest s r ps at h.0 h.1 (omega (arith, d)) (omega (arith, up, le)) h.2 in
+        let q = one_longest s r ps at h.0 (part_sort One s lead.1) h.1 (omega (arith, d)) (omega (arith, up, le)) h.2 in
         elim q.3 [
           | inl e ↦ rw q.1 (rw e (onto_reads (run ts below xs h.0) xs (Part One s ∷ xs) f (some r ps f) (standing q.0.0) to (ends_behind One s xs (kind_at ts to)) (λ x is i. one_better s xs q.0.0 r ps f x.0 (kept s r ps at h.0 q.0 q.1 h.2 e q.2) i) rec))
           | inr w ↦ rw q.1 (over One s xs xs r ps f h.0 to q.0 (run ts below xs q.0.1) lead.0 lead.1 h.1 q.2 (larger s r ps at h.0 q.0 q.1 h.2 w.0) w.0 w.1 split.0 h.3 (λ e. e) (λ e. passes xs e q.0.1))
@@ -333,7 +333,7 @@ module _ (ts : List DocToken) (below : Rule → ℕ → Read Forest) (n : ℕ)
         let next = and_split (apart (begins s) (firsts xs)) (fine xs) split.1 in
         let up = rises ts xs f h.0 to h.3 in
         let rec = of_head xs f h.0 to (run_longest xs f turns h.0 to next.1 (omega (arith, d)) le (omega (arith, le)) h.3) in
-        let q = one_longest s r ps at h.0 h.1 (omega (arith, d)) (omega (arith, up, le)) h.2 in
+        let q = one_longest s r ps at h.0 (part_sort May s lead.1) h.1 (omega (arith, d)) (omega (arith, up, le)) h.2 in
         elim q.3 [
           | inl e ↦ rw q.1 (rw e (onto_reads (run ts below xs h.0) xs (Part May s ∷ xs) f (some r ps f) (standing q.0.0) to (ends_behind May s xs (kind_at ts to)) (λ x is i. may_better s xs q.0.0 r ps f x.0 (same_size s r ps at h.0 q.0 q.1 h.2 e) (kept s r ps at h.0 q.0 q.1 h.2 e q.2) i) rec))
           | inr w ↦ rw q.1 (over May s xs xs r ps f h.0 to q.0 (run ts below xs q.0.1) lead.0 lead.1 h.1 q.2 (larger s r ps at h.0 q.0 q.1 h.2 w.0) w.0 w.1 split.0 h.3 (λ e. e) (λ e. passes xs e q.0.1))
@@ -356,7 +356,7 @@ module _ (ts : List DocToken) (below : Rule → ℕ → Read Forest) (n : ℕ)
         let up = rises ts (Part Many s ∷ xs) f h.0 to h.3 in
         let less = (rule_starts ts r ps at h.0 h.2).0 in
         let rec = run_longest (Part Many s ∷ xs) f m h.0 to c (omega (arith, d)) le (omega (arith, lt, less)) h.3 in
-        let q = one_longest s r ps at h.0 h.1 (omega (arith, d)) (omega (arith, up, le)) h.2 in
+        let q = one_longest s r ps at h.0 (part_sort Many s lead.1) h.1 (omega (arith, d)) (omega (arith, up, le)) h.2 in
         elim q.3 [
           | inl e ↦ rw q.1 (rw e (onto_reads (many ts below s (λ b. run ts below xs b) m h.0) (Part Many s ∷ xs) (Part Many s ∷ xs) f (some r ps f) (standing q.0.0) to (λ z. z) (λ x is i. many_better s xs q.0.0 r ps f x.0 (are_items s xs f h.0 to h.3) (are_items s xs x.0 h.0 x.1 (many_sound s xs (λ b. run ts below xs b) (λ b y z. run_sound xs b y z) m h.0 x is).0) (same_size s r ps at h.0 q.0 q.1 h.2 e) (kept s r ps at h.0 q.0 q.1 h.2 e q.2) i) rec))
           | inr w ↦ rw q.1 (over Many s xs (Part Many s ∷ xs) r ps f h.0 to q.0 (many ts below s (λ b. run ts below xs b) m q.0.1) lead.0 lead.1 h.1 q.2 (larger s r ps at h.0 q.0 q.1 h.2 w.0) w.0 w.1 split.0 h.3 (λ e. e) (λ e. many_passes s (λ b. run ts below xs b) (λ b. passes xs e b) m q.0.1))

@@ -6,7 +6,7 @@ use Rattle.stan_model_doc.specs.Trees.{Forest}
 use Rattle.stan_model_doc.specs.Grammar.{Runs}
 use Rattle.stan_model_doc.specs.Choices.{Better, left}
 use Rattle.stan_doc_descent.specs.Parse.{Read, run, height}
-use Rattle.stan_doc_descent.specs.Tables.{rule_goes, is_special}
+use Rattle.stan_doc_descent.specs.Tables.{rule_goes, is_tag, is_special}
 use Rattle.stan_doc_descent.specs.Descent.{IsSound, Reaches, Outgrown, ReadsParts}
 
 abbrev pub In : Rule → List Rule → Type 0
@@ -31,7 +31,7 @@ abbrev pub ReadsProduction : List DocToken → Rule → Forest → ℕ → Read 
 ReadsProduction ts r ps b o = (x : Forest × ℕ) × (o ≡ Some x) × (Better (symbols r) x.0 ps ⊎ Outgrown r ps x.0) × Reaches ts (rule_goes r) b x.1
 
 abbrev pub ReadsProductions : List DocToken → (Rule → ℕ → Read Forest) → ℕ → Type 0
-ReadsProductions ts below n = (r : Rule) (ps : Forest) (at b : ℕ) → height ps < n → b ≤ length ts → Runs ts (symbols r) ps at b → ReadsProduction ts r ps b (below r at)
+ReadsProductions ts below n = (r : Rule) (ps : Forest) (at b : ℕ) → is_tag (sort_of r) ≡ false → height ps < n → b ≤ length ts → Runs ts (symbols r) ps at b → ReadsProduction ts r ps b (below r at)
 
 -- Where each production that nests less than so deep is read or a longer one, each part is.
 abbrev pub PartsAreRead : Type 0

@@ -9,7 +9,7 @@ use Rattle.stan_model_doc.specs.Trees.{Forest}
 use Rattle.stan_model_doc.specs.Grammar.{Runs}
 use Rattle.stan_model_doc.specs.Choices.{Better, left, choices, More, size}
 use Rattle.stan_doc_descent.specs.Parse.{Read, Piece, one, run, height}
-use Rattle.stan_doc_descent.specs.Tables.{rule_goes, ends, fine, is_special}
+use Rattle.stan_doc_descent.specs.Tables.{rule_goes, is_tag, ends, fine, is_special}
 
 -- What is read of a production is a tree of it that nests less than so deep.
 abbrev pub IsSound : List DocToken → (Rule → ℕ → Read Forest) → ℕ → Type 0
@@ -35,9 +35,9 @@ Outgrown r ps x = (r ≡ default_value) × (size ps < size x)
 abbrev pub ReadsPiece : List DocToken → Rule → Forest → ℕ → Option (Piece × ℕ) → Type 0
 ReadsPiece ts r ps b o = (x : Piece × ℕ) × (o ≡ Some x) × (BetterPiece x.0 r ps ⊎ Outgrown r ps x.0.1) × Reaches ts (rule_goes r) b x.1
 
--- Each part that nests less than so deep is read, or a longer one.
+-- Each part but a tag that nests less than so deep is read, or a longer one.
 abbrev pub ReadsParts : List DocToken → (Rule → ℕ → Read Forest) → ℕ → Type 0
-ReadsParts ts below n = (s : Sort) (r : Rule) (ps : Forest) (at b : ℕ) → sort_of r ≡ s → height ps < n → b ≤ length ts → Runs ts (symbols r) ps at b → ReadsPiece ts r ps b (one ts below s at)
+ReadsParts ts below n = (s : Sort) (r : Rule) (ps : Forest) (at b : ℕ) → is_tag s ≡ false → sort_of r ≡ s → height ps < n → b ≤ length ts → Runs ts (symbols r) ps at b → ReadsPiece ts r ps b (one ts below s at)
 
 -- What the descent reads is a tree of the symbols.
 abbrev pub DescentIsSound : Type 0

@@ -68,10 +68,10 @@ type_goes = k.Bar ∷ k.Ampersand ∷ atom_goes
 abbrev pub field_goes : List DocKind
 field_goes = k.Question ∷ type_goes
 
--- all tokens but a comma and closing brackets
+-- all tokens but a comma and closing brackets, and the end
 abbrev pub texts_go : List DocKind
 texts_go =
-    k.ParamTag ∷ k.ReturnTag ∷ k.VarTag ∷ k.PropertyTag ∷ k.MethodTag ∷ k.TemplateTag ∷ k.InheritTag ∷ k.OtherTag ∷ k.Variable ∷ k.This ∷ k.Name ∷ k.Identifier ∷ k.Int ∷ k.Array ∷ k.Callable ∷ k.Static
+    k.End ∷ k.ParamTag ∷ k.ReturnTag ∷ k.VarTag ∷ k.PropertyTag ∷ k.MethodTag ∷ k.TemplateTag ∷ k.InheritTag ∷ k.OtherTag ∷ k.Variable ∷ k.This ∷ k.Name ∷ k.Identifier ∷ k.Int ∷ k.Array ∷ k.Callable ∷ k.Static
     ∷ k.Closure ∷ k.Min ∷ k.Max ∷ k.Is ∷ k.Not ∷ k.Of ∷ k.Integer ∷ k.Float ∷ k.SingleQuoted ∷ k.DoubleQuoted ∷ k.LeftParenthesis ∷ k.LeftBracket ∷ k.LeftBrace ∷ k.Below ∷ k.Above ∷ k.Bar ∷ k.Ampersand
     ∷ k.Question ∷ k.Colon ∷ k.DoubleColon ∷ k.Equals ∷ k.Star ∷ k.Ellipsis ∷ k.Other ∷ []
 
@@ -157,8 +157,13 @@ leads (Word ks ∷ xs) = true
 leads (Any stop ∷ xs) = false
 leads (Part n s ∷ xs) = implies (lacks n) (leads xs)
 
--- whether a longer part of this need and sort makes a better tree
+abbrev pub is_tag : Sort → Bool
+is_tag Tag = true
+is_tag s = false
+
+-- whether a longer part of this need and sort makes a better tree. No tag is a part.
 abbrev pub settled : Need → Sort → Bool
+settled n Tag = false
 settled One Default = false
 settled n s = true
 

@@ -56,7 +56,7 @@ module _ (ts : List DocToken) (below : Rule → ℕ → Read Forest) (n : ℕ) (
             let piece = one_sound ts below n sound Atom at q is in
             absurd (let w = sym bracket ∙ longer_atom ts q.0.0 q.0.1 at m q.1 piece.0 bare piece.1 lt in cc)
         | inr glued ↦
-            let p = parts Atom callable_type glued.0 at b refl (omega (arith, glued.2, d)) le glued.1 in
+            let p = parts Atom callable_type glued.0 at b refl refl (omega (arith, glued.2, d)) le glued.1 in
             subst (λ (z : Piece × ℕ). Reaches ts (rule_goes suffixed) b z.1) (some_is p.0 q (sym p.1 ∙ is)) p.3
       ]
 
@@ -76,7 +76,7 @@ module _ (ts : List DocToken) (below : Rule → ℕ → Read Forest) (n : ℕ) (
   unfolding same_kind
   suffixes (some r qs f) at b d le h =
       let up = rises ts Suffixes f h.0 b h.3 in
-      let q = parts Atom r qs at h.0 h.1 (omega (arith, d)) (omega (arith, up, le)) h.2 in
+      let q = parts Atom r qs at h.0 refl h.1 (omega (arith, d)) (omega (arith, up, le)) h.2 in
       elim q.3 [
         | inl e ↦
             let x = descent_reads_the_longest ts below n sound parts Suffixes f h.0 b refl (omega (arith, d)) le h.3 in (
