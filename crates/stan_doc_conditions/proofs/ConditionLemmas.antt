@@ -1,8 +1,5 @@
 -- The last `:` that can part the branches of a condition makes the tree that counts.
-use Rattle.std.proofs.Common.{◌≡◌, ◌∙◌, ℕ, zero, suc, ◌+◌, ◌≤◌, ◌<◌, Bool, true, false, cond, List, ◌∷◌, length, take, Option, Some, None, refl, sym, subst, ◌⊎◌, inl, inr, arith, ◌&&◌}
-use Rattle.std.specs.Prelude.{nat_le}
-use Rattle.std.proofs.lemmas.Bool.{leb-true, le-leb}
-use Rattle.std.proofs.lemmas.List.{length-take-le}
+use Rattle.std.proofs.Common.{◌≡◌, ℕ, ◌+◌, ◌≤◌, ◌<◌, false, List, ◌∷◌, length, Some, refl, sym, subst, inl, inr, arith}
 use Rattle.stan_model_doc.specs.declared.token.DocKind.{DocKind}
 use Rattle.stan_model_doc.specs.declared.token.DocKind.TheVariants as k
 use Rattle.stan_model_doc.specs.declared.token.DocToken.{DocToken}
@@ -12,32 +9,18 @@ use Rattle.stan_model_doc.specs.Rules.{Rule, conditional, negation, variables, s
 use Rattle.stan_model_doc.specs.Trees.{Forest, nil, mark, word, none, some}
 use Rattle.stan_model_doc.specs.Grammar.{Runs}
 use Rattle.stan_model_doc.specs.Choices.{Better}
-use Rattle.stan_doc_descent.specs.Parse.{Read, ◌>>=◌, onto, choose, Piece, standing, after, word_at, one, run, height}
-use Rattle.stan_doc_descent.specs.Tables.{goes, rule_goes, ends}
-use Rattle.stan_doc_descent.specs.Descent.{IsSound, Reaches, BetterPiece, Outgrown, ReadsParts}
+use Rattle.stan_doc_descent.specs.Parse.{Read, ◌>>=◌, onto, Piece, standing, after, word_at, one, height}
+use Rattle.stan_doc_descent.specs.Tables.{goes, ends}
+use Rattle.stan_doc_descent.specs.Descent.{IsSound, Reaches, ReadsParts}
 use Rattle.stan_doc_descent.specs.Alternatives.{ReadsProduction, ReadsProductions}
-use Rattle.stan_doc_descent.proofs.Words.{and_split, some_is, see, subset_has, clash}
-use Rattle.stan_doc_descent.proofs.Checks.{rule_part}
+use Rattle.stan_doc_descent.proofs.Words.{see, clash}
 use Rattle.stan_doc_descent.proofs.Runs.{starts, rises, after_at}
-use Rattle.stan_doc_descent.proofs.Preferred.{mark_better, word_better, none_better, one_better, one_longer, may_better, added_better}
-use Rattle.stan_doc_descent.proofs.Reading.{bind_ok, onto_is, after_is, word_is, word_there, one_sound, one_longest, run_sound, larger, kept, descent_reads_the_longest}
+use Rattle.stan_doc_descent.proofs.Preferred.{mark_better, word_better, none_better, one_better, may_better, added_better}
+use Rattle.stan_doc_descent.proofs.Reading.{bind_ok, onto_is, after_is, word_is, word_there, one_sound, one_longest, run_sound, kept, descent_reads_the_longest}
 use Rattle.stan_doc_descent.proofs.Alternatives.{parts_are_read}
-use Rattle.stan_doc_conditions.specs.Conditions.{Second, Branches, Test, Negatable, parted_at, last_parted, test, negated, negatable, condition, ConditionsAreRead, ConditionsAreSound}
+use Rattle.stan_doc_conditions.specs.Conditions.{Second, Branches, Test, Negatable, last_parted, second, test, negated, negatable, condition, ConditionsAreRead, ConditionsAreSound}
 use Rattle.stan_doc_conditions.proofs.BracketLemmas.{brackets_end_once}
-use Rattle.stan_doc_conditions.proofs.Prefixes.{agreed, prefix_agrees, agrees_prefix, prefix_ends}
-
-pub in_order : (a b : ℕ) → (a ≤ b) ⊎ (b < a)
-in_order zero b = inl (omega arith)
-in_order (suc a) zero = inr (omega arith)
-in_order (suc a) (suc b) = elim (in_order a b) [ inl le ↦ inl (omega (arith, le)) | inr lt ↦ inr (omega (arith, lt)) ]
-
-guarded : {A : Type 0} (c : Bool) (o : Option A) (y : A) → cond c o None ≡ Some y → (c ≡ true) × (o ≡ Some y)
-guarded true o y h = (refl, h)
-guarded false o y h = absurd cc
-
-chosen : {A : Type 0} (o : Option A) (other : Option A) (y : A) → choose o (λ x. Some x) other ≡ Some y → (o ≡ Some y) ⊎ ((o ≡ None) × (other ≡ Some y))
-chosen (Some x) other y h = inl h
-chosen None other y h = inr (refl, h)
+use Rattle.stan_doc_conditions.proofs.PartingLemmas.{chosen, last_is, last_there}
 
 module _ (ts : List DocToken) (below : List DocToken → Rule → ℕ → Read Forest) (n : ℕ) (sound : (us : List DocToken) → IsSound us (below us) n) where
   abbrev Found : List Symbol → ℕ → Forest × ℕ → Type 0
@@ -48,42 +31,17 @@ module _ (ts : List DocToken) (below : List DocToken → Rule → ℕ → Read F
 
   -- ---- what is read is a run
 
-  -- the branches with the part that was read first, which ends at the place
-  abbrev IsParted : ℕ → ℕ → Forest × ℕ → Type 0
-  IsParted at c y = (a : Piece) × (x : Forest) × (one (take c ts) (below (take c ts)) Written at ≡ Some (a, c)) × (y.0 ≡ standing a x) × Found Branches at y
-
-  parted_is : (at c : ℕ) (y : Forest × ℕ) → c ≤ length ts → parted_at ts below at c ≡ Some y → IsParted at c y
-  parted_is at c y le h =
-      let a = bind_ok (one (take c ts) (below (take c ts)) Written at) _ y h in
-      let g = guarded (nat_le a.0.1 c && nat_le c a.0.1) _ y a.2 in
-      let both = and_split (nat_le a.0.1 c) (nat_le c a.0.1) g.0 in
-      let same : a.0.1 ≡ c = omega (arith, leb-true a.0.1 c both.0, leb-true c a.0.1 both.1) in
-      let b = onto_is (run ts (below ts) Second c) (standing a.0.0) y g.1 in
-      let piece = one_sound (take c ts) (below (take c ts)) n (sound (take c ts)) Written at a.0 a.1 in
-      let there : Runs ts (symbols a.0.0.0) a.0.0.1 at c = agreed (take c ts) ts c (prefix_agrees ts c le) (symbols a.0.0.0) a.0.0.1 at c (omega arith) (subst (λ z. Runs (take c ts) (symbols a.0.0.0) a.0.0.1 at z) same piece.1) in
-      let second = run_sound ts (below ts) n (sound ts) Second c b.0 b.1 in (
-        a.0.0,
-        b.0.0,
-        subst (λ z. one (take c ts) (below (take c ts)) Written at ≡ Some (a.0.0, z)) same a.1,
-        b.2,
-        grown Branches (standing a.0.0 b.0.0) at b.0.1 y b.2 b.3 (c, piece.0, there, second.0) (omega (arith, piece.2, second.1)),
-      )
-
-  last_is : (at m : ℕ) (y : Forest × ℕ) → m ≤ length ts → last_parted ts below at m ≡ Some y → Found Branches at y
-  last_is at zero y le h = absurd cc
-  last_is at (suc m) y le h = elim (chosen (parted_at ts below at m) (last_parted ts below at m) y h) [
-    | inl e ↦ (parted_is at m y (omega (arith, le)) e).4
-    | inr e ↦ last_is at m y (omega (arith, le)) e.1
-  ]
+  second_is : (c : ℕ) (x : Forest × ℕ) → second ts below c ≡ Some x → Runs ts Second x.0 c x.1 × (height x.0 ≤ n)
+  second_is c x h = run_sound ts (below ts) n (sound ts) Second c x h
 
   test_is : (at : ℕ) (y : Forest × ℕ) → test ts below at ≡ Some y → Found Test at y
   test_is at y h =
       let a = bind_ok (one ts (below ts) Written at) _ y h in
       let b = bind_ok (after ts k.Question a.0.1) _ y a.2 in
-      let c = onto_is (last_parted ts below b.0 (length ts)) (λ f. standing a.0.0 (mark f)) y b.2 in
+      let c = onto_is (last_parted ts below (second ts below) b.0 (length ts)) (λ f. standing a.0.0 (mark f)) y b.2 in
       let piece = one_sound ts (below ts) n (sound ts) Written at a.0 a.1 in
       let q = after_is ts k.Question a.0.1 b.0 b.1 in
-      let w = last_is b.0 (length ts) c.0 (omega arith) c.1 in
+      let w = (last_is ts below n sound Second (second ts below) second_is b.0 (length ts) c.0 (omega arith) c.1).1.4 in
       grown Test (standing a.0.0 (mark c.0.0)) at c.0.1 y c.2 c.3 (a.0.1, piece.0, piece.1, (q.0, subst (λ z. Runs ts Branches c.0.0 z c.0.1) q.1 w.0)) (omega (arith, piece.2, w.1))
 
   negated_is : (at : ℕ) (y : Forest × ℕ) → 1 ≤ n → negated ts below at ≡ Some y → (x : Forest) × (y.0 ≡ some negation (mark nil) x) × Found Negatable at y
@@ -139,62 +97,24 @@ module _ (ts : List DocToken) (below : List DocToken → Rule → ℕ → Read F
     stays us kinds c end lack (inl e) = e
     stays us kinds c end lack (inr w) = clash (has kinds (kind_at us c)) w.1 lack
 
-    at_end : (us : List DocToken) (r : Rule) (c end : ℕ) → sort_of r ≡ Written → kind_at us c ≡ k.End → Reaches us (rule_goes r) c end → end ≡ c
-    unfolding same_kind
-    at_end us r c end s e (inl i) = i
-    at_end us r c end s e (inr w) =
-        let go = subst (λ z. has (goes z) (kind_at us c) ≡ true) s (subset_has (rule_goes r) (goes (sort_of r)) (kind_at us c) (rule_part r) w.1) in
-        clash (has (goes Written) k.End) (subst (λ z. has (goes Written) z ≡ true) e go) refl
-
     behind : (g : Forest) (c to : ℕ) → Runs ts Second g c to → c < to
     behind g c to h = elim (starts ts Second g c to refl h) [ inl e ↦ absurd (let w = e.1 in cc) | inr e ↦ e.0 ]
 
-    parted_there : (r : Rule) (a g : Forest) (at c to : ℕ) → sort_of r ≡ Written → height a < n → height g ≤ n → to ≤ length ts → Runs ts (symbols r) a at c → Runs ts Second g c to
-        → Same Branches (some r a g) to (parted_at ts below at c)
+    second_there : (g : Forest) (c to : ℕ) → height g ≤ n → to ≤ length ts → Runs ts Second g c to → (x : Forest × ℕ) × (second ts below c ≡ Some x) × Better Second x.0 g × (x.1 ≡ to)
     unfolding same_kind
-    parted_there r a g at c to s d l le h i =
-        let up = rises ts Second g c to i in
-        let short : c ≤ length ts = omega (arith, up, le) in
-        let full = length-take-le c ts short in
-        let q = parts (take c ts) Written r a at c refl s d (omega (arith, full)) (agreed ts (take c ts) c (agrees_prefix ts c short) (symbols r) a at c (omega arith) h) in
-        let e = at_end (take c ts) r c q.0.1 s (prefix_ends ts c short) q.3 in
-        let x = descent_reads_the_longest ts (below ts) n (sound ts) (parts ts) Second g c to refl l le i in
-        let first = kept (take c ts) (below (take c ts)) n (sound (take c ts)) (parts (take c ts)) Written r a at c q.0 q.1 (agreed ts (take c ts) c (agrees_prefix ts c short) (symbols r) a at c (omega arith) h) e q.2 in (
-          (standing q.0.0 x.0.0, x.0.1),
-          rw q.1 (rw (le-leb q.0.1 c (omega (arith, e)), le-leb c q.0.1 (omega (arith, e))) (rw x.1 refl)),
-          one_better Written Second q.0.0 r a g x.0.0 first x.2,
-          stays ts (ends Second) to x.0.1 refl x.3,
-        )
+    second_there g c to d le h =
+        let x = descent_reads_the_longest ts (below ts) n (sound ts) (parts ts) Second g c to refl d le h in
+        (x.0, x.1, x.2, stays ts (ends Second) to x.0.1 refl x.3)
 
-    -- a longer first branch is better
-    later : (r : Rule) (a g : Forest) (at c m : ℕ) (y : Forest × ℕ) → sort_of r ≡ Written → height a < n → c < m → m ≤ length ts → Runs ts (symbols r) a at c → parted_at ts below at m ≡ Some y → Better Branches y.0 (some r a g)
-    later r a g at c m y s d lt le h is =
-        let p = parted_is at m y le is in
-        let full = length-take-le m ts le in
-        let there = agreed ts (take m ts) m (agrees_prefix ts m le) (symbols r) a at c (omega (arith, lt)) h in
-        let q = parts (take m ts) Written r a at c refl s d (omega (arith, full, lt)) there in
-        let same = some_is q.0 (p.0, m) (sym q.1 ∙ p.2) in
-        let better = subst (λ (z : Piece × ℕ). BetterPiece z.0 r a ⊎ Outgrown r a z.0.1) same q.2 in
-        let more = larger (take m ts) (below (take m ts)) n (sound (take m ts)) (parts (take m ts)) Written r a at c (p.0, m) p.2 there lt in
-        subst (λ z. Better Branches z (some r a g)) (sym p.3) (one_longer Written Second p.0 r a g p.1 refl s better more)
+    branches_there : (r : Rule) (a g : Forest) (at c to : ℕ) → sort_of r ≡ Written → height a < n → height g ≤ n → to ≤ length ts → Runs ts (symbols r) a at c → Runs ts Second g c to
+        → (x : Forest × ℕ) × (last_parted ts below (second ts below) at (length ts) ≡ Some x) × Better Branches x.0 (some r a g) × (x.1 ≡ to)
+    branches_there r a g at c to s d l le h i =
+        let lt = behind g c to i in
+        let x = last_there ts below n sound Second (second ts below) second_is longest r a g at c to (length ts) s d h (second_there g c to l le i) (omega (arith, lt, le)) (omega arith)
+        (λ b y p. brackets_end_once ts Branches y.0 (some r a g) at y.1 to refl p.4.0 (c, s, h, i)) in
+        (x.0, x.1, x.2.0, x.3)
 
-    last_there : (r : Rule) (a g : Forest) (at c to m : ℕ) → sort_of r ≡ Written → height a < n → height g ≤ n → to ≤ length ts → Runs ts (symbols r) a at c → Runs ts Second g c to → c < m → m ≤ length ts
-        → Same Branches (some r a g) to (last_parted ts below at m)
-    last_there r a g at c to zero s d l le h i lt room = absurd (omega (arith, lt))
-    last_there r a g at c to (suc m) s d l le h i lt room = elim (in_order m c) [
-      | inl under ↦
-          let x = parted_there r a g at c to s d l le h i in
-          let e : c ≡ m = omega (arith, under, lt) in
-          (x.0, rw (subst (λ z. parted_at ts below at z ≡ Some x.0) e x.1) refl, x.2, x.3)
-      | inr over ↦ elim (see (parted_at ts below at m)) [
-        | inl lack ↦ let w = last_there r a g at c to m s d l le h i over (omega (arith, room)) in (w.0, rw lack w.1, w.2, w.3)
-        | inr w ↦
-            let p = parted_is at m w.0 (omega (arith, room)) w.1 in
-            (w.0, rw w.1 refl, later r a g at c m w.0 s d over (omega (arith, room)) h w.1, brackets_end_once ts Branches w.0.0 (some r a g) at w.0.1 to refl p.4.0 (c, s, h, i))
-      ]
-    ]
-
-    test_reads : (at m : ℕ) (q : Piece × ℕ) (x : Forest × ℕ) → one ts (below ts) Written at ≡ Some q → q.1 ≡ m → kind_at ts m ≡ k.Question → last_parted ts below (m + 1) (length ts) ≡ Some x
+    test_reads : (at m : ℕ) (q : Piece × ℕ) (x : Forest × ℕ) → one ts (below ts) Written at ≡ Some q → q.1 ≡ m → kind_at ts m ≡ k.Question → last_parted ts below (second ts below) (m + 1) (length ts) ≡ Some x
         → test ts below at ≡ Some (standing q.0 (mark x.0), x.1)
     test_reads at m q x is e question behind = rw is (rw e (rw (after_at ts k.Question m refl question) (rw behind refl)))
 
@@ -206,7 +126,7 @@ module _ (ts : List DocToken) (below : List DocToken → Rule → ℕ → Read F
         let up = rises ts Branches (some u a g) (h.0 + 1) to h.3.1 in
         let q = one_longest ts (below ts) n (sound ts) (parts ts) Written r t at h.0 refl h.1 (omega (arith, d)) (omega (arith, up, le)) h.2 in
         let e = stays ts (goes Written) h.0 q.0.1 (rw h.3.0 refl) q.3 in
-        let x = last_there u a g (h.0 + 1) c to (length ts) h.3.1.1 (omega (arith, d)) (omega (arith, d)) le h.3.1.2 h.3.1.3 (omega (arith, lt, le)) (omega arith) in (
+        let x = branches_there u a g (h.0 + 1) c to h.3.1.1 (omega (arith, d)) (omega (arith, d)) le h.3.1.2 h.3.1.3 in (
           (standing q.0.0 (mark x.0.0), x.0.1),
           test_reads at h.0 q.0 x.0 q.1 e h.3.0 x.1,
           one_better Written (Mark k.Question ∷ Branches) q.0.0 r t (mark (some u a g)) (mark x.0.0) (kept ts (below ts) n (sound ts) (parts ts) Written r t at h.0 q.0 q.1 h.2 e q.2) (mark_better k.Question Branches (some u a g) x.0.0 x.2),

@@ -24,17 +24,20 @@ abbrev pub Negatable : List Symbol
 Negatable = Part May Negation ∷ Test
 
 module _ (ts : List DocToken) (below : List DocToken → Rule → ℕ → Read Forest) where
-  -- The branches that the token at a place parts: the first one is read as if the text ended there.
-  abbrev pub parted_at : ℕ → ℕ → Read Forest
-  parted_at at c = one (take c ts) (below (take c ts)) Written at >>= λ a. if nat_le a.1 c && nat_le c a.1 then run ts (below ts) Second c >>= onto (standing a.0) else None
+  -- A type and what is read behind it, where the type ends at a place: it is read as if the text ended there.
+  abbrev pub parted_at : (ℕ → Read Forest) → ℕ → ℕ → Read Forest
+  parted_at behind at c = one (take c ts) (below (take c ts)) Written at >>= λ a. if nat_le a.1 c && nat_le c a.1 then behind c >>= onto (standing a.0) else None
 
-  -- the branches that the last such token before a place parts
-  abbrev pub last_parted : ℕ → ℕ → Read Forest
-  last_parted at zero = None
-  last_parted at (suc c) = choose (parted_at at c) Some (last_parted at c)
+  -- the same at the last such place before one
+  abbrev pub last_parted : (ℕ → Read Forest) → ℕ → ℕ → Read Forest
+  last_parted behind at zero = None
+  last_parted behind at (suc c) = choose (parted_at behind at c) Some (last_parted behind at c)
+
+  abbrev pub second : ℕ → Read Forest
+  second c = run ts (below ts) Second c
 
   abbrev pub test : ℕ → Read Forest
-  test at = one ts (below ts) Written at >>= λ a. after ts k.Question a.1 >>= λ b. last_parted b (length ts) >>= onto (λ f. standing a.0 (mark f))
+  test at = one ts (below ts) Written at >>= λ a. after ts k.Question a.1 >>= λ b. last_parted second b (length ts) >>= onto (λ f. standing a.0 (mark f))
 
   abbrev pub negated : ℕ → Read Forest
   negated at = after ts k.Not at >>= λ b. test b >>= onto (some negation (mark nil))

@@ -17,7 +17,7 @@ use Rattle.stan_doc_descent.specs.Alternatives.{ReadsProduction}
 use Rattle.stan_doc_descent.specs.Descent.{Outgrown, Reaches}
 use Rattle.stan_model_doc.specs.Choices.{Better}
 use Rattle.stan_doc_conditions.proofs.BracketLemmas.{token_there}
-use Rattle.stan_doc_conditions.proofs.ConditionLemmas.{in_order}
+use Rattle.stan_doc_conditions.proofs.PartingLemmas.{in_order}
 use Rattle.stan_doc_descent.proofs.Words.{and_split, some_is, clash}
 use Rattle.stan_doc_descent.proofs.Runs.{after_at}
 use Rattle.stan_doc_descent.proofs.Reading.{bind_ok, after_is}
