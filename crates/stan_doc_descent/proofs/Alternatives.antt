@@ -9,8 +9,8 @@ use Rattle.stan_model_doc.specs.Trees.{Forest}
 use Rattle.stan_model_doc.specs.Grammar.{Runs}
 use Rattle.stan_model_doc.specs.Choices.{Better}
 use Rattle.stan_doc_descent.specs.Parse.{Read, first, one, run, height}
-use Rattle.stan_doc_descent.specs.Tables.{apart, subset, goes, firsts, ends, empty, is_special}
-use Rattle.stan_doc_descent.specs.Descent.{IsSound, ReadsPiece, ReadsParts, BetterPiece}
+use Rattle.stan_doc_descent.specs.Tables.{apart, subset, rule_goes, firsts, ends, empty, is_tag, is_special}
+use Rattle.stan_doc_descent.specs.Descent.{IsSound, Reaches, Outgrown, ReadsPiece, ReadsParts, BetterPiece}
 use Rattle.stan_doc_descent.specs.Alternatives.{In, Before, Beaten, EarlierAlternativesAreLonger, ReadsProduction, ReadsProductions, PartsAreRead, PlainProductionsAreRead}
 use Rattle.stan_doc_descent.proofs.Words.{and_split, or_split, see, subset_has, apart_has, clash}
 use Rattle.stan_doc_descent.proofs.Checks.{rule_takes, rule_leads, plain_productions_are_fine}
@@ -54,7 +54,7 @@ listed plain_field = inr (inl refl)
 listed param_tag = inl refl
 listed r = inl refl
 
-plain_ends : (r : Rule) → is_special r ≡ false → subset (ends (symbols r)) (goes (sort_of r)) ≡ true
+plain_ends : (r : Rule) → is_special r ≡ false → subset (ends (symbols r)) (rule_goes r) ≡ true
 unfolding same_kind
 plain_ends conditional h = absurd cc
 plain_ends param_tag h = absurd cc
@@ -95,45 +95,39 @@ earlier_alternatives_are_longer ts q r g ps at e b i h j = beats ts q r g ps at 
 -- ---- parts
 
 module _ (ts : List DocToken) (below : Rule → ℕ → Read Forest) (n : ℕ) (sound : IsSound ts below n) (longest : ReadsProductions ts below n) where
-  here : (r : Rule) (ps : Forest) (at b : ℕ) (rs : List Rule) → height ps < n → b ≤ length ts → Runs ts (symbols r) ps at b → ReadsPiece ts (sort_of r) r ps b (first ts below (r ∷ rs) at)
-  here r ps at b rs d le h =
-      let x = longest r ps at b d le h in
-      (((r, x.0.0), x.0.1), rw x.1 refl, settle x.0 x.2)
+  here : (r : Rule) (ps : Forest) (at b : ℕ) (rs : List Rule) → is_tag (sort_of r) ≡ false → height ps < n → b ≤ length ts → Runs ts (symbols r) ps at b → ReadsPiece ts r ps b (first ts below (r ∷ rs) at)
+  here r ps at b rs tag d le h =
+      let x = longest r ps at b tag d le h in
+      (((r, x.0.0), x.0.1), rw x.1 refl, settle x.0.0 x.2, x.3)
     where
-      settle : (x : Forest × ℕ) → (Better (symbols r) x.0 ps × (x.1 ≡ b)) ⊎ ((b < x.1) × (has (goes (sort_of r)) (kind_at ts b) ≡ true))
-          → (BetterPiece (r, x.0) r ps × (x.1 ≡ b)) ⊎ ((b < x.1) × (has (goes (sort_of r)) (kind_at ts b) ≡ true))
-      settle x (inl (inl i, e)) = inl (inl (ap (λ z. (r, z)) (sym i)), e)
-      settle x (inl (inr m, e)) = inl (inr (inr (refl, m)), e)
-      settle x (inr w) = inr w
+      settle : (g : Forest) → Better (symbols r) g ps ⊎ Outgrown r ps g → BetterPiece (r, g) r ps ⊎ Outgrown r ps g
+      settle g (inl (inl i)) = inl (inl (ap (λ z. (r, z)) (sym i)))
+      settle g (inl (inr m)) = inl (inr (inr (refl, m)))
+      settle g (inr o) = inr o
 
-  lost : (q r : Rule) (g ps : Forest) (to b : ℕ) → Beaten ts q r to b → (BetterPiece (q, g) r ps × (to ≡ b)) ⊎ ((b < to) × (has (goes (sort_of r)) (kind_at ts b) ≡ true))
-  lost q r g ps to b (inl v) = inl (inr (inl v.1), sym v.0)
-  lost q r g ps to b (inr v) = inr v
-
-  first_longest : (rs : List Rule) (r : Rule) (ps : Forest) (at b : ℕ) → ordered rs ≡ true → In r rs → height ps < n → b ≤ length ts → Runs ts (symbols r) ps at b → ReadsPiece ts (sort_of r) r ps b (first ts below rs at)
-  first_longest [] r ps at b w i d le h = absurd i
-  first_longest (q ∷ rs) r ps at b w (inl i) d le h = subst (λ z. ReadsPiece ts (sort_of r) r ps b (first ts below (z ∷ rs) at)) (sym i) (here r ps at b rs d le h)
-  first_longest (q ∷ rs) r ps at b w (inr i) d le h = elim (see (below q at)) [
-    | inl lack ↦ let x = first_longest rs r ps at b (and_split (clear q rs) (ordered rs) w).1 i d le h in (x.0, rw lack x.1, x.2)
+  first_longest : (rs : List Rule) (r : Rule) (ps : Forest) (at b : ℕ) → is_tag (sort_of r) ≡ false → ordered rs ≡ true → In r rs → height ps < n → b ≤ length ts → Runs ts (symbols r) ps at b → ReadsPiece ts r ps b (first ts below rs at)
+  first_longest [] r ps at b tag w i d le h = absurd i
+  first_longest (q ∷ rs) r ps at b tag w (inl i) d le h = subst (λ z. ReadsPiece ts r ps b (first ts below (z ∷ rs) at)) (sym i) (here r ps at b rs tag d le h)
+  first_longest (q ∷ rs) r ps at b tag w (inr i) d le h = elim (see (below q at)) [
+    | inl lack ↦ let x = first_longest rs r ps at b tag (and_split (clear q rs) (ordered rs) w).1 i d le h in (x.0, rw lack x.1, x.2, x.3)
     | inr f ↦
         let g = sound q at f.0 f.1 in
         let v = beats ts q r f.0.0 ps at f.0.1 b (won q r rs (and_split (clear q rs) (ordered rs) w).0 i) g.0 h in
-        (((q, f.0.0), f.0.1), rw f.1 refl, lost q r f.0.0 ps f.0.1 b v)
+        (((q, f.0.0), f.0.1), rw f.1 refl, inl (inr (inl v.0)), v.1)
   ]
 
   parts : ReadsParts ts below n
-  parts s r ps at b e d le h =
-      subst (λ z. ReadsPiece ts z r ps b (one ts below z at)) e (first_longest (order (sort_of r)) r ps at b (sort_ordered (sort_of r)) (listed r) d le h)
+  parts s r ps at b tag e d le h =
+      subst (λ z. ReadsPiece ts r ps b (one ts below z at)) e (first_longest (order (sort_of r)) r ps at b (subst (λ z. is_tag z ≡ false) (sym e) tag) (sort_ordered (sort_of r)) (listed r) d le h)
 
   plain : (r : Rule) (ps : Forest) (at b : ℕ) → is_special r ≡ false → height ps ≤ n → b ≤ length ts → Runs ts (symbols r) ps at b → ReadsProduction ts r ps b (run ts below (symbols r) at)
   plain r ps at b p d le h =
       let x = descent_reads_the_longest ts below n sound parts (symbols r) ps at b (plain_productions_are_fine r p) d le h in
-      (x.0, x.1, settle x.0 x.2)
+      (x.0, x.1, inl x.2, settle x.0.1 x.3)
     where
-      settle : (x : Forest × ℕ) → (Better (symbols r) x.0 ps × (x.1 ≡ b)) ⊎ ((b < x.1) × (has (ends (symbols r)) (kind_at ts b) ≡ true))
-          → (Better (symbols r) x.0 ps × (x.1 ≡ b)) ⊎ ((b < x.1) × (has (goes (sort_of r)) (kind_at ts b) ≡ true))
-      settle x (inl i) = inl i
-      settle x (inr w) = inr (w.0, subset_has (ends (symbols r)) (goes (sort_of r)) (kind_at ts b) (plain_ends r p) w.1)
+      settle : (end : ℕ) → Reaches ts (ends (symbols r)) b end → Reaches ts (rule_goes r) b end
+      settle end (inl i) = inl i
+      settle end (inr w) = inr (w.0, subset_has (ends (symbols r)) (rule_goes r) (kind_at ts b) (plain_ends r p) w.1)
 
 pub parts_are_read : PartsAreRead
 parts_are_read ts below n sound longest = parts ts below n sound longest

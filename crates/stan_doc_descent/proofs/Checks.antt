@@ -3,8 +3,9 @@ use Rattle.std.proofs.Common.{◌≡◌, Bool, true, false, List, [], ◌∷◌,
 use Rattle.std.specs.Prelude.{◌||◌}
 use Rattle.stan_model_doc.specs.declared.token.DocKind.{DocKind}
 use Rattle.stan_model_doc.specs.Tokens.{same_kind, has}
+use Rattle.stan_model_doc.specs.Symbols.{Sort, Tag, Need, One, May, Many}
 use Rattle.stan_model_doc.specs.Rules.{Rule, conditional, param_tag, method_tag, default_value, fields, suffixed, symbols, sort_of}
-use Rattle.stan_doc_descent.specs.Tables.{begins, empty, firsts, leads, subset}
+use Rattle.stan_doc_descent.specs.Tables.{begins, goes, rule_goes, empty, firsts, leads, subset, settled, is_tag}
 use Rattle.stan_doc_descent.specs.Descent.{PlainProductionsAreFine}
 use Rattle.stan_doc_descent.proofs.Words.{or_right}
 
@@ -30,6 +31,17 @@ pub rule_begins : (r : Rule) → subset (firsts (symbols r)) (begins (sort_of r)
 unfolding same_kind
 rule_begins param_tag = refl
 rule_begins r = refl
+
+pub rule_part : (r : Rule) → subset (rule_goes r) (goes (sort_of r)) ≡ true
+unfolding same_kind
+rule_part param_tag = refl
+rule_part r = refl
+
+pub part_sort : (n : Need) (s : Sort) → settled n s ≡ true → is_tag s ≡ false
+part_sort One Tag h = absurd cc
+part_sort May Tag h = absurd cc
+part_sort Many Tag h = absurd cc
+part_sort n s h = refl
 
 -- ---- lists of kinds
 

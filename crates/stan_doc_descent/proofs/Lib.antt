@@ -1,9 +1,9 @@
-mod Words
-mod Checks
-mod Runs
-mod Texts
-mod Preferred
-mod Reading
-mod Seconds
-mod Alternatives
-mod FieldLemmas
+pub mod Words
+pub mod Checks
+pub mod Runs
+pub mod Texts
+pub mod Preferred
+pub mod Reading
+pub mod Seconds
+pub mod Alternatives
+pub mod FieldLemmas

@@ -1,13 +1,14 @@
 -- A tree that is made of better parts is better.
-use Rattle.std.proofs.Common.{◌≡◌, ℕ, Bool, true, false, List, [], ◌∷◌, ◌++◌, refl, sym, ap, subst, ◌⊎◌, inl, inr, arith}
+use Rattle.std.proofs.Common.{◌≡◌, ℕ, ◌≤◌, ◌<◌, Bool, true, false, List, [], ◌∷◌, ◌++◌, refl, sym, ap, subst, ◌⊎◌, inl, inr, arith}
 use Rattle.stan_model_doc.specs.declared.token.DocKind.{DocKind}
 use Rattle.stan_model_doc.specs.declared.token.DocToken.{DocToken}
-use Rattle.stan_model_doc.specs.Symbols.{Sort, Need, One, May, Many, Stop, Symbol, Mark, Word, Any, Part}
-use Rattle.stan_model_doc.specs.Rules.{Rule, symbols}
-use Rattle.stan_model_doc.specs.Trees.{Forest, mark, word, any, none, some}
+use Rattle.stan_model_doc.specs.Symbols.{Sort, Need, One, May, Many, Stop, Symbol, Mark, Word, Any, Part, lacks}
+use Rattle.stan_model_doc.specs.Rules.{Rule, symbols, sort_of}
+use Rattle.stan_model_doc.specs.Trees.{Forest, nil, mark, word, any, none, some}
 use Rattle.stan_model_doc.specs.Choices.{size, items_size, left, choices_of, choices, More, Better}
 use Rattle.stan_doc_descent.specs.Parse.{Piece, standing}
-use Rattle.stan_doc_descent.specs.Descent.{BetterPiece}
+use Rattle.stan_doc_descent.specs.Descent.{BetterPiece, Outgrown}
+use Rattle.stan_doc_descent.specs.Tables.{settled}
 
 more_append : (ps xs ys : List ℕ) → More xs ys → More (ps ++ xs) (ps ++ ys)
 more_append [] xs ys m = m
@@ -98,3 +99,32 @@ many_better s xs p r ps f x is_f is_x e i (inr m) = by (subst (λ ns. More ns (i
     by : More (items_size x ∷ choices_of true (Part Many s ∷ xs) x) (items_size f ∷ choices_of true (Part Many s ∷ xs) f) → Better (Part Many s ∷ xs) (standing p x) (some r ps f)
     by (inl lt) = inr (inl (omega (arith, lt, e)))
     by (inr a) = same a.0 (joined true (Part Many s ∷ xs) p r ps f x i (inr a.1))
+
+-- ---- parts that take more
+
+pub items_in : (f : Forest) → items_size f ≤ size f
+items_in nil = omega arith
+items_in (mark f) = omega arith
+items_in (word t f) = omega arith
+items_in (any n f) = omega arith
+items_in (none f) = omega arith
+items_in (some r ps f) = omega (arith, items_in f)
+
+-- a longer part is better, if it is no text of any tokens
+pub one_longer : (s : Sort) (xs : List Symbol) (p : Piece) (r : Rule) (ps f x : Forest) → settled One s ≡ true → sort_of r ≡ s → BetterPiece p r ps ⊎ Outgrown r ps p.1 → size ps < size p.1 → Better (Part One s ∷ xs) (standing p x) (some r ps f)
+one_longer s xs p r ps f x t is (inl (inl i)) lt = absurd (let same = ap (λ (q : Piece). size q.1) i in omega (arith, lt, same))
+one_longer s xs p r ps f x t is (inr o) lt = absurd (let w = subst (λ z. settled One z ≡ true) (sym is) t in let v = subst (λ z. settled One (sort_of z) ≡ true) o.0 w in cc)
+one_longer s xs p r ps f x t is (inl (inr m)) lt = inr (more_front (left p.0 ∷ choices (symbols p.0) p.1) (left r ∷ choices (symbols r) ps) (choices xs x) (choices xs f) m)
+
+-- a longer part is better, where no item of the same part stands behind the shorter one
+pub longer_better : (need : Need) (s : Sort) (xs : List Symbol) (p : Piece) (r : Rule) (ps f x : Forest) → settled need s ≡ true → sort_of r ≡ s → BetterPiece p r ps ⊎ Outgrown r ps p.1 → size ps < size p.1 → items_size f ≡ 0
+    → Better (Part need s ∷ xs) (standing p x) (some r ps f)
+longer_better One s xs p r ps f x t is i lt e = one_longer s xs p r ps f x t is i lt
+longer_better May s xs p r ps f x t is i lt e = inr (inl lt)
+longer_better Many s xs p r ps f x t is i lt e = inr (inl (omega (arith, lt, e)))
+
+-- a part that stands is better than none
+pub added_better : (need : Need) (s : Sort) (xs : List Symbol) (p : Piece) (f x : Forest) → lacks need ≡ true → 0 < size p.1 → Better (Part need s ∷ xs) (standing p x) (none f)
+added_better One s xs p f x l lt = absurd (let w = l in cc)
+added_better May s xs p f x l lt = inr (inl lt)
+added_better Many s xs p f x l lt = inr (inl (omega (arith, lt)))

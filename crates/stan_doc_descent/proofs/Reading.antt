@@ -1,5 +1,5 @@
 -- The descent reads runs, and each other run of the same symbols ends where more of them goes on.
-use Rattle.std.proofs.Common.{◌≡◌, ℕ, zero, suc, ◌+◌, ◌≤◌, ◌<◌, Bool, true, false, cond, List, [], ◌∷◌, ◌++◌, length, Option, Some, None, refl, sym, ap, subst, ◌⊎◌, inl, inr, arith, ◌&&◌}
+use Rattle.std.proofs.Common.{◌≡◌, ℕ, zero, suc, ◌+◌, ◌≤◌, ◌<◌, Bool, true, false, cond, List, [], ◌∷◌, ◌++◌, length, Option, Some, None, refl, sym, ap, subst, inl, inr, arith, ◌&&◌, ◌⊎◌}
 use Rattle.std.specs.Prelude.{not, if◌then◌else◌, slice_get}
 use Rattle.stan_model_doc.specs.declared.token.DocKind.{DocKind}
 use Rattle.stan_model_doc.specs.declared.token.DocToken.{DocToken}
@@ -8,21 +8,21 @@ use Rattle.stan_model_doc.specs.Symbols.{Sort, Tag, Written, Unary, Atom, Field,
 use Rattle.stan_model_doc.specs.Rules.{Rule, symbols, sort_of, order}
 use Rattle.stan_model_doc.specs.Trees.{Forest, nil, mark, word, any, none, some}
 use Rattle.stan_model_doc.specs.Grammar.{Runs, is_closer}
-use Rattle.stan_model_doc.specs.Choices.{Better, size}
+use Rattle.stan_model_doc.specs.Choices.{Better, size, items_size}
 use Rattle.stan_doc_descent.specs.Parse.{Read, ◌>>=◌, onto, Piece, standing, after, after_of, word_at, word_of, any_at, first, one, many, run, height}
-use Rattle.stan_doc_descent.specs.Tables.{begins, goes, empty, firsts, leads, ends, fine, is_end, closes, apart}
-use Rattle.stan_doc_descent.specs.Descent.{ReadsPiece, ReadsParts, DescentIsSound, DescentReadsTheLongest}
-use Rattle.stan_doc_descent.proofs.Words.{and_split, some_is, see, same_is, apart_has, clash}
-use Rattle.stan_doc_descent.proofs.Checks.{has_left, has_right}
+use Rattle.stan_doc_descent.specs.Tables.{begins, goes, rule_goes, empty, firsts, leads, ends, fine, is_end, closes, settled, is_tag, apart}
+use Rattle.stan_doc_descent.specs.Descent.{BetterPiece, Outgrown, Reaches, ReadsParts, DescentIsSound, DescentReadsTheLongest}
+use Rattle.stan_doc_descent.proofs.Words.{subset_has, and_split, some_is, see, same_is, apart_has, clash}
+use Rattle.stan_doc_descent.proofs.Checks.{rule_part, part_sort, has_left, has_right}
 use Rattle.stan_doc_descent.proofs.Runs.{starts, rises, rule_starts, after_at, taken}
 use Rattle.stan_doc_descent.proofs.Texts.{any_at_is, any_there}
-use Rattle.stan_doc_descent.proofs.Preferred.{mark_better, word_better, any_better, none_better, one_better, may_better, many_better, IsItems}
+use Rattle.stan_doc_descent.proofs.Preferred.{mark_better, word_better, any_better, none_better, one_better, may_better, many_better, items_in, longer_better, added_better, IsItems}
 
 pub bind_ok : {A B : Type 0} (r : Option A) (f : A → Option B) (y : B) → (r >>= f) ≡ Some y → (x : A) × (r ≡ Some x) × (f x ≡ Some y)
 bind_ok (Some x) f y e = (x, refl, e)
 bind_ok None f y e = absurd cc
 
-onto_is : (r : Read Forest) (f : Forest → Forest) (y : Forest × ℕ) → (r >>= onto f) ≡ Some y → (x : Forest × ℕ) × (r ≡ Some x) × (y.0 ≡ f x.0) × (y.1 ≡ x.1)
+pub onto_is : (r : Read Forest) (f : Forest → Forest) (y : Forest × ℕ) → (r >>= onto f) ≡ Some y → (x : Forest × ℕ) × (r ≡ Some x) × (y.0 ≡ f x.0) × (y.1 ≡ x.1)
 onto_is (Some x) f y e = let same = some_is (f x.0, x.1) y e in (x, refl, sym (ap (λ (p : Forest × ℕ). p.0) same), sym (ap (λ (p : Forest × ℕ). p.1) same))
 onto_is None f y e = absurd cc
 
@@ -144,8 +144,13 @@ module _ (ts : List DocToken) (below : Rule → ℕ → Read Forest) (n : ℕ)
   run_sound (Part Many s ∷ xs) at y h = many_sound s xs (λ b. run ts below xs b) (λ b x e. run_sound xs b x e) (length ts + 1) at y h
 
   module _ (parts : ReadsParts ts below n) where
-    one_longest : (s : Sort) (r : Rule) (ps : Forest) (at b : ℕ) → sort_of r ≡ s → height ps < n → b ≤ length ts → Runs ts (symbols r) ps at b → ReadsPiece ts s r ps b (one ts below s at)
-    one_longest = parts
+    pub one_longest : (s : Sort) (r : Rule) (ps : Forest) (at b : ℕ) → is_tag s ≡ false → sort_of r ≡ s → height ps < n → b ≤ length ts → Runs ts (symbols r) ps at b
+        → (x : Piece × ℕ) × (one ts below s at ≡ Some x) × (BetterPiece x.0 r ps ⊎ Outgrown r ps x.0.1) × Reaches ts (goes s) b x.1
+    one_longest s r ps at b tag is d le h = let q = parts s r ps at b tag is d le h in (q.0, q.1, q.2, settle q.0.1 q.3)
+      where
+        settle : (end : ℕ) → Reaches ts (rule_goes r) b end → Reaches ts (goes s) b end
+        settle end (inl e) = inl e
+        settle end (inr w) = inr (w.0, subst (λ z. has (goes z) (kind_at ts b) ≡ true) is (subset_has (rule_goes r) (goes (sort_of r)) (kind_at ts b) (rule_part r) w.1))
 
     -- ---- symbols
 
@@ -199,19 +204,31 @@ module _ (ts : List DocToken) (below : Rule → ℕ → Read Forest) (n : ℕ)
     turns = length ts + 1
 
     abbrev pub Reads : List Symbol → Forest → ℕ → Read Forest → Type 0
-    Reads xs f to o = (x : Forest × ℕ) × (o ≡ Some x) × ((Better xs x.0 f × (x.1 ≡ to)) ⊎ ((to < x.1) × (has (ends xs) (kind_at ts to) ≡ true)))
+    Reads xs f to o = (x : Forest × ℕ) × (o ≡ Some x) × Better xs x.0 f × Reaches ts (ends xs) to x.1
 
     onto_reads : (o : Read Forest) (xs ys : List Symbol) (f g : Forest) (w : Forest → Forest) (to : ℕ) → (has (ends xs) (kind_at ts to) ≡ true → has (ends ys) (kind_at ts to) ≡ true)
         → ((x : Forest × ℕ) → o ≡ Some x → Better xs x.0 f → Better ys (w x.0) g) → Reads xs f to o → Reads ys g to (o >>= onto w)
-    onto_reads o xs ys f g w to more better r = ((w r.0.0, r.0.1), rw r.1 refl, settle r.0 r.1 r.2)
+    onto_reads o xs ys f g w to more better r = ((w r.0.0, r.0.1), rw r.1 refl, better r.0 r.1 r.2, settle r.0.1 r.3)
       where
-        settle : (x : Forest × ℕ) → o ≡ Some x → (Better xs x.0 f × (x.1 ≡ to)) ⊎ ((to < x.1) × (has (ends xs) (kind_at ts to) ≡ true)) → (Better ys (w x.0) g × (x.1 ≡ to)) ⊎ ((to < x.1) × (has (ends ys) (kind_at ts to) ≡ true))
-        settle x is (inl e) = inl (better x is e.0, e.1)
-        settle x is (inr v) = inr (v.0, more v.1)
+        settle : (end : ℕ) → Reaches ts (ends xs) to end → Reaches ts (ends ys) to end
+        settle end (inl e) = inl e
+        settle end (inr v) = inr (v.0, more v.1)
 
     -- pieces of the same tokens
     pub same_size : (s : Sort) (r : Rule) (ps : Forest) (at b : ℕ) (q : Piece × ℕ) → one ts below s at ≡ Some q → Runs ts (symbols r) ps at b → q.1 ≡ b → size q.0.1 ≡ size ps
     same_size s r ps at b q is h e = omega (arith, taken ts (symbols q.0.0) q.0.1 at q.1 (one_sound s at q is).1, taken ts (symbols r) ps at b h, e)
+
+    pub larger : (s : Sort) (r : Rule) (ps : Forest) (at b : ℕ) (q : Piece × ℕ) → one ts below s at ≡ Some q → Runs ts (symbols r) ps at b → b < q.1 → size ps < size q.0.1
+    larger s r ps at b q is h lt = omega (arith, taken ts (symbols q.0.0) q.0.1 at q.1 (one_sound s at q is).1, taken ts (symbols r) ps at b h, lt)
+
+    -- a part of the same tokens is none that is only longer
+    pub kept : (s : Sort) (r : Rule) (ps : Forest) (at b : ℕ) (q : Piece × ℕ) → one ts below s at ≡ Some q → Runs ts (symbols r) ps at b → q.1 ≡ b → BetterPiece q.0 r ps ⊎ Outgrown r ps q.0.1 → BetterPiece q.0 r ps
+    kept s r ps at b q is h e (inl i) = i
+    kept s r ps at b q is h e (inr o) = absurd (omega (arith, same_size s r ps at b q is h e, o.1))
+
+    -- where nothing more is taken no item stands
+    pub no_items : (ys : List Symbol) (f : Forest) (b to : ℕ) → Runs ts ys f b to → b ≡ to → items_size f ≡ 0
+    no_items ys f b to h e = omega (arith, items_in f, taken ts ys f b to h, e)
 
     -- what goes on behind the others goes on behind all
     ends_behind : (need : Need) (s : Sort) (xs : List Symbol) (kind : DocKind) → has (ends xs) kind ≡ true → has (ends (Part need s ∷ xs)) kind ≡ true
@@ -228,24 +245,26 @@ module _ (ts : List DocToken) (below : Rule → ℕ → Read Forest) (n : ℕ)
         (rw e (has_right (goes s) (if lacks need then begins s else []) kind (rw l h)))
 
     -- the part that is read is longer than the one that stands: nothing stands behind that one
-    over : (need : Need) (s : Sort) (xs ys : List Symbol) (f g : Forest) (b to : ℕ) (p : Piece × ℕ) (o : Read Forest) → leads ys ≡ true → b < p.1 → has (goes s) (kind_at ts b) ≡ true → apart (goes s) (firsts ys) ≡ true
-        → Runs ts ys f b to → (empty ys ≡ true → empty xs ≡ true) → (empty ys ≡ true → Passes o p.1) → Reads (Part need s ∷ xs) g to (o >>= onto (standing p.0))
-    over need s xs ys f g b to p o ld lt go ap h same ok = elim (starts ts ys f b to ld h) [
+    over : (need : Need) (s : Sort) (xs ys : List Symbol) (r : Rule) (ps f : Forest) (b to : ℕ) (p : Piece × ℕ) (o : Read Forest) → leads ys ≡ true → settled need s ≡ true → sort_of r ≡ s → BetterPiece p.0 r ps ⊎ Outgrown r ps p.0.1 → size ps < size p.0.1
+        → b < p.1 → has (goes s) (kind_at ts b) ≡ true → apart (goes s) (firsts ys) ≡ true
+        → Runs ts ys f b to → (empty ys ≡ true → empty xs ≡ true) → (empty ys ≡ true → Passes o p.1) → Reads (Part need s ∷ xs) (some r ps f) to (o >>= onto (standing p.0))
+    over need s xs ys r ps f b to p o ld t is piece more lt go ap h same ok = elim (starts ts ys f b to ld h) [
       | inl e ↦
           let w = ok e.1 in
-          ((standing p.0 w.0.0, w.0.1), rw w.1 refl, inr (omega (arith, lt, w.2, e.0), subst (λ z. has (ends (Part need s ∷ xs)) (kind_at ts z) ≡ true) e.0 (ends_goes need s xs (kind_at ts b) (same e.1) go)))
+          ((standing p.0 w.0.0, w.0.1), rw w.1 refl, longer_better need s xs p.0 r ps f w.0.0 t is piece more (no_items ys f b to h e.0), inr (omega (arith, lt, w.2, e.0), subst (λ z. has (ends (Part need s ∷ xs)) (kind_at ts z) ≡ true) e.0 (ends_goes need s xs (kind_at ts b) (same e.1) go)))
       | inr e ↦ clash (has (firsts ys) (kind_at ts b)) e.1 (apart_has (goes s) (firsts ys) (kind_at ts b) ap go)
     ]
 
     -- a part is read where none stands: nothing stands behind it
-    added : (need : Need) (s : Sort) (xs : List Symbol) (f g : Forest) (at to : ℕ) (p : Piece × ℕ) (o : Read Forest) → leads xs ≡ true → lacks need ≡ true → one ts below s at ≡ Some p → apart (begins s) (firsts xs) ≡ true
-        → Runs ts xs f at to → (empty xs ≡ true → Passes o p.1) → Reads (Part need s ∷ xs) g to (o >>= onto (standing p.0))
-    added need s xs f g at to p o ld l is ap h ok =
+    added : (need : Need) (s : Sort) (xs : List Symbol) (f : Forest) (at to : ℕ) (p : Piece × ℕ) (o : Read Forest) → leads xs ≡ true → lacks need ≡ true → one ts below s at ≡ Some p → apart (begins s) (firsts xs) ≡ true
+        → Runs ts xs f at to → (empty xs ≡ true → Passes o p.1) → Reads (Part need s ∷ xs) (none f) to (o >>= onto (standing p.0))
+    added need s xs f at to p o ld l is ap h ok =
         let t = one_takes s at p is in
+        let some_tokens : 0 < size p.0.1 = omega (arith, taken ts (symbols p.0.0) p.0.1 at p.1 (one_sound s at p is).1, t.0) in
         elim (starts ts xs f at to ld h) [
           | inl e ↦
               let w = ok e.1 in
-              ((standing p.0 w.0.0, w.0.1), rw w.1 refl, inr (omega (arith, t.0, w.2, e.0), subst (λ z. has (ends (Part need s ∷ xs)) (kind_at ts z) ≡ true) e.0 (ends_begins need s xs (kind_at ts at) l e.1 t.1)))
+              ((standing p.0 w.0.0, w.0.1), rw w.1 refl, added_better need s xs p.0 f w.0.0 l some_tokens, inr (omega (arith, t.0, w.2, e.0), subst (λ z. has (ends (Part need s ∷ xs)) (kind_at ts z) ≡ true) e.0 (ends_begins need s xs (kind_at ts at) l e.1 t.1)))
           | inr e ↦ clash (has (firsts xs) (kind_at ts at)) e.1 (apart_has (begins s) (firsts xs) (kind_at ts at) ap t.1)
         ]
 
@@ -272,7 +291,7 @@ module _ (ts : List DocToken) (below : Rule → ℕ → Read Forest) (n : ℕ)
     closing (Part need s ∷ xs) f at to c h = absurd cc
 
     pub run_longest : (xs : List Symbol) (f : Forest) (m at to : ℕ) → fine xs ≡ true → height f ≤ n → to ≤ length ts → to < at + m → Runs ts xs f at to → Reads xs f to (head m xs at)
-    run_longest [] nil m at to c d le lt h = ((nil, at), refl, inl (inl refl, h))
+    run_longest [] nil m at to c d le lt h = ((nil, at), refl, inl refl, inl h)
     run_longest (Mark kind ∷ xs) (mark f) m at to c d le lt h =
         let split = and_split (not (is_end kind)) (fine xs) c in
         let r = of_head xs f (at + 1) to (run_longest xs f turns (at + 1) to split.1 d le (omega (arith, le)) h.1) in
@@ -287,55 +306,60 @@ module _ (ts : List DocToken) (below : Rule → ℕ → Read Forest) (n : ℕ)
         (onto_reads (run ts below xs (at + k)) xs (Any stop ∷ xs) f (any k f) (any k) to (λ e. e) (λ x is i. any_better stop xs k f x.0 i) r)
     run_longest (Part One s ∷ xs) (none f) m at to c d le lt h = absurd (let w = h.0 in cc)
     run_longest (Part One s ∷ xs) (some r ps f) m at to c d le lt h =
-        let lead = and_split (leads xs) _ c in
-        let split = and_split (apart (goes s) (firsts xs)) (fine xs) lead.1 in
+        let test = and_split (leads xs && settled One s) _ c in
+        let lead = and_split (leads xs) (settled One s) test.0 in
+        let split = and_split (apart (goes s) (firsts xs)) (fine xs) test.1 in
         let up = rises ts xs f h.0 to h.3 in
         let rec = of_head xs f h.0 to (run_longest xs f turns h.0 to split.1 (omega (arith, d)) le (omega (arith, le)) h.3) in
-        let q = one_longest s r ps at h.0 h.1 (omega (arith, d)) (omega (arith, up, le)) h.2 in
-        elim q.2 [
-          | inl e ↦ rw q.1 (rw e.1 (onto_reads (run ts below xs h.0) xs (Part One s ∷ xs) f (some r ps f) (standing q.0.0) to (ends_behind One s xs (kind_at ts to)) (λ x is i. one_better s xs q.0.0 r ps f x.0 e.0 i) rec))
-          | inr w ↦ rw q.1 (over One s xs xs f (some r ps f) h.0 to q.0 (run ts below xs q.0.1) lead.0 w.0 w.1 split.0 h.3 (λ e. e) (λ e. passes xs e q.0.1))
+        let q = one_longest s r ps at h.0 (part_sort One s lead.1) h.1 (omega (arith, d)) (omega (arith, up, le)) h.2 in
+        elim q.3 [
+          | inl e ↦ rw q.1 (rw e (onto_reads (run ts below xs h.0) xs (Part One s ∷ xs) f (some r ps f) (standing q.0.0) to (ends_behind One s xs (kind_at ts to)) (λ x is i. one_better s xs q.0.0 r ps f x.0 (kept s r ps at h.0 q.0 q.1 h.2 e q.2) i) rec))
+          | inr w ↦ rw q.1 (over One s xs xs r ps f h.0 to q.0 (run ts below xs q.0.1) lead.0 lead.1 h.1 q.2 (larger s r ps at h.0 q.0 q.1 h.2 w.0) w.0 w.1 split.0 h.3 (λ e. e) (λ e. passes xs e q.0.1))
         ]
     run_longest (Part May s ∷ xs) (none f) m at to c d le lt h =
-        let lead = and_split (leads xs) _ c in
-        let split = and_split (apart (goes s) (firsts xs)) (apart (begins s) (firsts xs) && fine xs) lead.1 in
+        let test = and_split (leads xs && settled May s) _ c in
+        let lead = and_split (leads xs) (settled May s) test.0 in
+        let split = and_split (apart (goes s) (firsts xs)) (apart (begins s) (firsts xs) && fine xs) test.1 in
         let next = and_split (apart (begins s) (firsts xs)) (fine xs) split.1 in
         let rec = of_head xs f at to (run_longest xs f turns at to next.1 d le (omega (arith, le)) h.1) in
         elim (see (one ts below s at)) [
           | inl lack ↦ rw lack (onto_reads (run ts below xs at) xs (Part May s ∷ xs) f (none f) none to (ends_behind May s xs (kind_at ts to)) (λ x is i. none_better May s xs f x.0 i) rec)
-          | inr w ↦ rw w.1 (added May s xs f (none f) at to w.0 (run ts below xs w.0.1) lead.0 refl w.1 next.0 h.1 (λ e. passes xs e w.0.1))
+          | inr w ↦ rw w.1 (added May s xs f at to w.0 (run ts below xs w.0.1) lead.0 refl w.1 next.0 h.1 (λ e. passes xs e w.0.1))
         ]
     run_longest (Part May s ∷ xs) (some r ps f) m at to c d le lt h =
-        let lead = and_split (leads xs) _ c in
-        let split = and_split (apart (goes s) (firsts xs)) (apart (begins s) (firsts xs) && fine xs) lead.1 in
+        let test = and_split (leads xs && settled May s) _ c in
+        let lead = and_split (leads xs) (settled May s) test.0 in
+        let split = and_split (apart (goes s) (firsts xs)) (apart (begins s) (firsts xs) && fine xs) test.1 in
         let next = and_split (apart (begins s) (firsts xs)) (fine xs) split.1 in
         let up = rises ts xs f h.0 to h.3 in
         let rec = of_head xs f h.0 to (run_longest xs f turns h.0 to next.1 (omega (arith, d)) le (omega (arith, le)) h.3) in
-        let q = one_longest s r ps at h.0 h.1 (omega (arith, d)) (omega (arith, up, le)) h.2 in
-        elim q.2 [
-          | inl e ↦ rw q.1 (rw e.1 (onto_reads (run ts below xs h.0) xs (Part May s ∷ xs) f (some r ps f) (standing q.0.0) to (ends_behind May s xs (kind_at ts to)) (λ x is i. may_better s xs q.0.0 r ps f x.0 (same_size s r ps at h.0 q.0 q.1 h.2 e.1) e.0 i) rec))
-          | inr w ↦ rw q.1 (over May s xs xs f (some r ps f) h.0 to q.0 (run ts below xs q.0.1) lead.0 w.0 w.1 split.0 h.3 (λ e. e) (λ e. passes xs e q.0.1))
+        let q = one_longest s r ps at h.0 (part_sort May s lead.1) h.1 (omega (arith, d)) (omega (arith, up, le)) h.2 in
+        elim q.3 [
+          | inl e ↦ rw q.1 (rw e (onto_reads (run ts below xs h.0) xs (Part May s ∷ xs) f (some r ps f) (standing q.0.0) to (ends_behind May s xs (kind_at ts to)) (λ x is i. may_better s xs q.0.0 r ps f x.0 (same_size s r ps at h.0 q.0 q.1 h.2 e) (kept s r ps at h.0 q.0 q.1 h.2 e q.2) i) rec))
+          | inr w ↦ rw q.1 (over May s xs xs r ps f h.0 to q.0 (run ts below xs q.0.1) lead.0 lead.1 h.1 q.2 (larger s r ps at h.0 q.0 q.1 h.2 w.0) w.0 w.1 split.0 h.3 (λ e. e) (λ e. passes xs e q.0.1))
         ]
     run_longest (Part Many s ∷ xs) f zero at to c d le lt h = absurd (let up = rises ts (Part Many s ∷ xs) f at to h in omega (arith, lt, up))
     run_longest (Part Many s ∷ xs) (none f) (suc m) at to c d le lt h =
-        let lead = and_split (leads xs) _ c in
-        let split = and_split (apart (goes s) (begins s ++ firsts xs)) (apart (begins s) (firsts xs) && fine xs) lead.1 in
+        let test = and_split (leads xs && settled Many s) _ c in
+        let lead = and_split (leads xs) (settled Many s) test.0 in
+        let split = and_split (apart (goes s) (begins s ++ firsts xs)) (apart (begins s) (firsts xs) && fine xs) test.1 in
         let next = and_split (apart (begins s) (firsts xs)) (fine xs) split.1 in
         let rec = of_head xs f at to (run_longest xs f turns at to next.1 d le (omega (arith, le)) h.1) in
         elim (see (one ts below s at)) [
           | inl lack ↦ rw lack (onto_reads (run ts below xs at) xs (Part Many s ∷ xs) f (none f) none to (ends_behind Many s xs (kind_at ts to)) (λ x is i. none_better Many s xs f x.0 i) rec)
-          | inr w ↦ rw w.1 (added Many s xs f (none f) at to w.0 (many ts below s (λ b. run ts below xs b) m w.0.1) lead.0 refl w.1 next.0 h.1 (λ e. many_passes s (λ b. run ts below xs b) (λ b. passes xs e b) m w.0.1))
+          | inr w ↦ rw w.1 (added Many s xs f at to w.0 (many ts below s (λ b. run ts below xs b) m w.0.1) lead.0 refl w.1 next.0 h.1 (λ e. many_passes s (λ b. run ts below xs b) (λ b. passes xs e b) m w.0.1))
         ]
     run_longest (Part Many s ∷ xs) (some r ps f) (suc m) at to c d le lt h =
-        let lead = and_split (leads xs) _ c in
-        let split = and_split (apart (goes s) (begins s ++ firsts xs)) (apart (begins s) (firsts xs) && fine xs) lead.1 in
+        let test = and_split (leads xs && settled Many s) _ c in
+        let lead = and_split (leads xs) (settled Many s) test.0 in
+        let split = and_split (apart (goes s) (begins s ++ firsts xs)) (apart (begins s) (firsts xs) && fine xs) test.1 in
         let up = rises ts (Part Many s ∷ xs) f h.0 to h.3 in
         let less = (rule_starts ts r ps at h.0 h.2).0 in
         let rec = run_longest (Part Many s ∷ xs) f m h.0 to c (omega (arith, d)) le (omega (arith, lt, less)) h.3 in
-        let q = one_longest s r ps at h.0 h.1 (omega (arith, d)) (omega (arith, up, le)) h.2 in
-        elim q.2 [
-          | inl e ↦ rw q.1 (rw e.1 (onto_reads (many ts below s (λ b. run ts below xs b) m h.0) (Part Many s ∷ xs) (Part Many s ∷ xs) f (some r ps f) (standing q.0.0) to (λ z. z) (λ x is i. many_better s xs q.0.0 r ps f x.0 (are_items s xs f h.0 to h.3) (are_items s xs x.0 h.0 x.1 (many_sound s xs (λ b. run ts below xs b) (λ b y z. run_sound xs b y z) m h.0 x is).0) (same_size s r ps at h.0 q.0 q.1 h.2 e.1) e.0 i) rec))
-          | inr w ↦ rw q.1 (over Many s xs (Part Many s ∷ xs) f (some r ps f) h.0 to q.0 (many ts below s (λ b. run ts below xs b) m q.0.1) lead.0 w.0 w.1 split.0 h.3 (λ e. e) (λ e. many_passes s (λ b. run ts below xs b) (λ b. passes xs e b) m q.0.1))
+        let q = one_longest s r ps at h.0 (part_sort Many s lead.1) h.1 (omega (arith, d)) (omega (arith, up, le)) h.2 in
+        elim q.3 [
+          | inl e ↦ rw q.1 (rw e (onto_reads (many ts below s (λ b. run ts below xs b) m h.0) (Part Many s ∷ xs) (Part Many s ∷ xs) f (some r ps f) (standing q.0.0) to (λ z. z) (λ x is i. many_better s xs q.0.0 r ps f x.0 (are_items s xs f h.0 to h.3) (are_items s xs x.0 h.0 x.1 (many_sound s xs (λ b. run ts below xs b) (λ b y z. run_sound xs b y z) m h.0 x is).0) (same_size s r ps at h.0 q.0 q.1 h.2 e) (kept s r ps at h.0 q.0 q.1 h.2 e q.2) i) rec))
+          | inr w ↦ rw q.1 (over Many s xs (Part Many s ∷ xs) r ps f h.0 to q.0 (many ts below s (λ b. run ts below xs b) m q.0.1) lead.0 lead.1 h.1 q.2 (larger s r ps at h.0 q.0 q.1 h.2 w.0) w.0 w.1 split.0 h.3 (λ e. e) (λ e. many_passes s (λ b. run ts below xs b) (λ b. passes xs e b) m q.0.1))
         ]
     run_longest xs f m at to c d le lt h = absurd h
 

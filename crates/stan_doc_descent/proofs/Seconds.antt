@@ -8,7 +8,7 @@ use Rattle.stan_model_doc.specs.Symbols.{Sort, Written, Alt, Both, Unary, Atom, 
 use Rattle.stan_model_doc.specs.Rules.{Rule, literals, names, identifiers, variables, keys, conditional, plain_type, alt, both, nullable, suffixed, group, this, literal, shape, range, callable_type, member, name, arguments, further_type, keyed, plain_field, symbols, sort_of}
 use Rattle.stan_model_doc.specs.Trees.{Forest, nil, mark, word, none, some}
 use Rattle.stan_model_doc.specs.Grammar.{Runs}
-use Rattle.stan_doc_descent.specs.Tables.{implies, subset, begins, goes, firsts, leads, empty}
+use Rattle.stan_doc_descent.specs.Tables.{implies, subset, begins, goes, rule_goes, firsts, leads, empty}
 use Rattle.stan_doc_descent.specs.Alternatives.{Beaten}
 use Rattle.stan_doc_descent.proofs.Words.{implied, and_split, or_split, same_is, subset_has, apart_has, clash, stands_kind}
 use Rattle.stan_doc_descent.proofs.Runs.{starts, rises, rule_starts}
@@ -85,7 +85,7 @@ module _ (ts : List DocToken) where
         | inr e ↦ inr (subset_has (firsts xs) second_goes (kind_at ts (at + 1)) split.1 e.1)
       ]
 
-  second : (xs : List Symbol) (f : Forest) (at to : ℕ) → calm xs ≡ true → has words (kind_at ts at) ≡ true → Runs ts xs f at to → Second at to
+  pub second : (xs : List Symbol) (f : Forest) (at to : ℕ) → calm xs ≡ true → has words (kind_at ts at) ≡ true → Runs ts xs f at to → Second at to
   second [] nil at to c w h = inl (omega (arith, h))
   second (Mark kind ∷ xs) (mark f) at to c w h = behind xs f at to (implied (has words kind) (leads xs && subset (firsts xs) second_goes) c (subst (λ z. has words z ≡ true) h.0 w)) h.1
   second (Word ks ∷ xs) (word t f) at to c w h = behind xs f at to c h.2
@@ -122,7 +122,7 @@ module _ (ts : List DocToken) where
   -- ---- names
 
   -- a name behind which no `<` stands
-  short_name : (ps : Forest) (at b : ℕ) (kind : DocKind) → Runs ts (symbols name) ps at b → kind_at ts (at + 1) ≡ kind → has (k.Below ∷ []) kind ≡ false → b ≡ at + 1
+  pub short_name : (ps : Forest) (at b : ℕ) (kind : DocKind) → Runs ts (symbols name) ps at b → kind_at ts (at + 1) ≡ kind → has (k.Below ∷ []) kind ≡ false → b ≡ at + 1
   short_name (word t ps) at b kind h e apart = elim (starts ts (Part May Arguments ∷ []) ps (at + 1) b refl h.2) [
     | inl x ↦ sym x.0
     | inr x ↦ clash (has (k.Below ∷ []) (kind_at ts (at + 1))) x.1 (rw e apart)
@@ -130,25 +130,25 @@ module _ (ts : List DocToken) where
   short_name ps at b kind h e apart = absurd h
 
   -- an atom whose second token is one with which a name goes on
-  name_beaten : (ps : Forest) (at e b : ℕ) (kind : DocKind) → Runs ts (symbols name) ps at b → kind_at ts (at + 1) ≡ kind → has (k.Below ∷ []) kind ≡ false → has (goes Atom) kind ≡ true → at + 1 < e
-      → (b < e) × (has (goes Atom) (kind_at ts b) ≡ true)
+  name_beaten : (ps : Forest) (at e b : ℕ) (kind : DocKind) → Runs ts (symbols name) ps at b → kind_at ts (at + 1) ≡ kind → has (k.Below ∷ []) kind ≡ false → has (rule_goes name) kind ≡ true → at + 1 < e
+      → (b < e) × (has (rule_goes name) (kind_at ts b) ≡ true)
   name_beaten ps at e b kind h is apart go lt =
       let same = short_name ps at b kind h is apart in
-      (omega (arith, same, lt), subst (λ z. has (goes Atom) (kind_at ts z) ≡ true) (sym same) (rw is go))
+      (omega (arith, same, lt), subst (λ z. has (rule_goes name) (kind_at ts z) ≡ true) (sym same) (rw is go))
 
-  shape_beaten : (g ps : Forest) (at e b : ℕ) → Runs ts (symbols shape) g at e → Runs ts (symbols name) ps at b → (b < e) × (has (goes Atom) (kind_at ts b) ≡ true)
+  shape_beaten : (g ps : Forest) (at e b : ℕ) → Runs ts (symbols shape) g at e → Runs ts (symbols name) ps at b → (b < e) × (has (rule_goes name) (kind_at ts b) ≡ true)
   unfolding same_kind
   shape_beaten (mark (mark g)) ps at e b h i = name_beaten ps at e b k.LeftBrace i h.1.0 refl refl (omega (arith, rises ts (Part May Fields ∷ Mark k.RightBrace ∷ []) g (at + 1 + 1) e h.1.1))
   shape_beaten (mark g) ps at e b h i = absurd h.1
   shape_beaten g ps at e b h i = absurd h
 
-  callable_beaten : (g ps : Forest) (at e b : ℕ) → Runs ts (symbols callable_type) g at e → Runs ts (symbols name) ps at b → (b < e) × (has (goes Atom) (kind_at ts b) ≡ true)
+  callable_beaten : (g ps : Forest) (at e b : ℕ) → Runs ts (symbols callable_type) g at e → Runs ts (symbols name) ps at b → (b < e) × (has (rule_goes name) (kind_at ts b) ≡ true)
   unfolding same_kind
   callable_beaten (word t (mark g)) ps at e b h i = name_beaten ps at e b k.LeftParenthesis i h.2.0 refl refl (omega (arith, rises ts (Any Nowhere ∷ Mark k.RightParenthesis ∷ Part May Result ∷ []) g (at + 1 + 1) e h.2.1))
   callable_beaten (word t g) ps at e b h i = absurd h.2
   callable_beaten g ps at e b h i = absurd h
 
-  member_beaten : (g ps : Forest) (at e b : ℕ) → Runs ts (symbols member) g at e → Runs ts (symbols name) ps at b → (b < e) × (has (goes Atom) (kind_at ts b) ≡ true)
+  member_beaten : (g ps : Forest) (at e b : ℕ) → Runs ts (symbols member) g at e → Runs ts (symbols name) ps at b → (b < e) × (has (rule_goes name) (kind_at ts b) ≡ true)
   unfolding same_kind
   member_beaten (word t (mark g)) ps at e b h i = name_beaten ps at e b k.DoubleColon i h.2.0 refl refl (omega (arith, rises ts (Word (k.Star ∷ identifiers) ∷ []) g (at + 1 + 1) e h.2.1))
   member_beaten (word t g) ps at e b h i = absurd h.2
@@ -238,8 +238,8 @@ module _ (ts : List DocToken) where
   range_beaten g ps at e b h i =
       let x = range_run g at e h in
       elim (name_run ps at b i) [
-        | inl same ↦ inr (omega (arith, x.5, same), subst (λ z. has (goes (sort_of name)) (kind_at ts z) ≡ true) same (rw x.0 refl))
-        | inr n ↦ inl (omega (arith, in_angles n.0 n.1 (at + 1) b n.2 n.3 x.1 x.2 x.3 x.4, x.5), omega arith)
+        | inl same ↦ (omega arith, inr (omega (arith, x.5, same), subst (λ z. has (rule_goes name) (kind_at ts z) ≡ true) same (rw x.0 refl)))
+        | inr n ↦ (omega arith, inl (omega (arith, in_angles n.0 n.1 (at + 1) b n.2 n.3 x.1 x.2 x.3 x.4, x.5)))
       ]
 
   -- ---- conditions
@@ -350,9 +350,9 @@ module _ (ts : List DocToken) where
   beaten shape member g ps at e b s h i = absurd (shape_member g ps at e b h i)
   beaten range member g ps at e b s h i = absurd (range_member g ps at e b h i)
   beaten callable_type member g ps at e b s h i = absurd (callable_member g ps at e b h i)
-  beaten shape name g ps at e b s h i = inr (shape_beaten g ps at e b h i)
+  beaten shape name g ps at e b s h i = (omega arith, inr (shape_beaten g ps at e b h i))
   beaten range name g ps at e b s h i = range_beaten g ps at e b h i
-  beaten callable_type name g ps at e b s h i = inr (callable_beaten g ps at e b h i)
-  beaten member name g ps at e b s h i = inr (member_beaten g ps at e b h i)
-  beaten keyed plain_field g ps at e b s h i = inr (key_beaten g ps at e b h i)
+  beaten callable_type name g ps at e b s h i = (omega arith, inr (callable_beaten g ps at e b h i))
+  beaten member name g ps at e b s h i = (omega arith, inr (member_beaten g ps at e b h i))
+  beaten keyed plain_field g ps at e b s h i = (omega arith, inr (key_beaten g ps at e b h i))
   beaten q r g ps at e b s h i = absurd cc

@@ -14,7 +14,7 @@ no_token : (m : ℕ) → (let ts : List DocToken = [] in slice_get ts m) ≡ Non
 no_token zero = refl
 no_token (suc m) = refl
 
-dropped : (ts : List DocToken) (at n : ℕ) → slice_get (drop at ts) n ≡ slice_get ts (at + n)
+pub dropped : (ts : List DocToken) (at n : ℕ) → slice_get (drop at ts) n ≡ slice_get ts (at + n)
 dropped ts zero n = ap (slice_get ts) (omega arith)
 dropped [] (suc at) n = no_token n ∙ sym (no_token (suc at + n))
 dropped (t ∷ ts) (suc at) n =

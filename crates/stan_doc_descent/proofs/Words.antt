@@ -49,6 +49,12 @@ pub same_at : (a b : DocKind) → a ≡ b → same_kind a b ≡ true
 unfolding same_kind
 same_at a b e = true_same the_type a b e
 
+pub only_kind : (a b : DocKind) → has (a ∷ []) b ≡ true → b ≡ a
+only_kind a b h = elim (or_split (same_kind b a) false h) [
+  | inl e ↦ same_is b a e
+  | inr e ↦ absurd (let w = e in cc)
+]
+
 pub subset_has : (xs ys : List DocKind) (k : DocKind) → subset xs ys ≡ true → has xs k ≡ true → has ys k ≡ true
 subset_has [] ys k s h = absurd cc
 subset_has (x ∷ xs) ys k s h =

@@ -3,8 +3,8 @@ use Rattle.std.specs.Prelude.{Bool, true, false, ◌&&◌, not, if◌then◌else
 use Rattle.stan_model_doc.specs.declared.token.DocKind.{DocKind}
 use Rattle.stan_model_doc.specs.declared.token.DocKind.TheVariants as k
 use Rattle.stan_model_doc.specs.Tokens.{has}
-use Rattle.stan_model_doc.specs.Symbols.{Sort, Tag, VariableName, Reference, Spread, StaticWord, Parameters, Parameter, FurtherParameter, Default, Bound, Written, Negation, Alt, OrPart, Both, AndPart, Unary, Brackets, Atom, Result, Arguments, FurtherType, Fields, Field, FurtherField, LastComma, QuestionMark, Symbol, Mark, Word, Any, Part, lacks, rest}
-use Rattle.stan_model_doc.specs.Rules.{Rule, names, variables, literals, conditional, param_tag, method_tag, default_value, fields, suffixed}
+use Rattle.stan_model_doc.specs.Symbols.{Sort, Tag, VariableName, Reference, Spread, StaticWord, Parameters, Parameter, FurtherParameter, Default, Bound, Written, Negation, Alt, OrPart, Both, AndPart, Unary, Brackets, Atom, Result, Arguments, FurtherType, Fields, Field, FurtherField, LastComma, QuestionMark, Need, One, Symbol, Mark, Word, Any, Part, lacks, rest}
+use Rattle.stan_model_doc.specs.Rules.{Rule, names, variables, literals, conditional, param_tag, method_tag, default_value, fields, suffixed, group, this, literal, shape, range, member, name, sort_of}
 use Rattle.stan_model_doc.specs.Grammar.{is_closer}
 
 -- ---- kinds
@@ -68,13 +68,20 @@ type_goes = k.Bar ∷ k.Ampersand ∷ atom_goes
 abbrev pub field_goes : List DocKind
 field_goes = k.Question ∷ type_goes
 
--- The tokens with which a longer part of this sort goes on where a shorter one ends. The first five are those of sorts that the test leaves out.
+-- all tokens but a comma and closing brackets, and the end
+abbrev pub texts_go : List DocKind
+texts_go =
+    k.End ∷ k.ParamTag ∷ k.ReturnTag ∷ k.VarTag ∷ k.PropertyTag ∷ k.MethodTag ∷ k.TemplateTag ∷ k.InheritTag ∷ k.OtherTag ∷ k.Variable ∷ k.This ∷ k.Name ∷ k.Identifier ∷ k.Int ∷ k.Array ∷ k.Callable ∷ k.Static
+    ∷ k.Closure ∷ k.Min ∷ k.Max ∷ k.Is ∷ k.Not ∷ k.Of ∷ k.Integer ∷ k.Float ∷ k.SingleQuoted ∷ k.DoubleQuoted ∷ k.LeftParenthesis ∷ k.LeftBracket ∷ k.LeftBrace ∷ k.Below ∷ k.Above ∷ k.Bar ∷ k.Ampersand
+    ∷ k.Question ∷ k.Colon ∷ k.DoubleColon ∷ k.Equals ∷ k.Star ∷ k.Ellipsis ∷ k.Other ∷ []
+
+-- The tokens with which a longer part of this sort goes on where a shorter one ends.
 abbrev pub goes : Sort → List DocKind
 goes Tag = variables ++ k.Of ∷ type_goes
-goes Parameters = k.Comma ∷ k.Equals ∷ []
-goes Parameter = k.Equals ∷ []
-goes FurtherParameter = k.Equals ∷ []
-goes Default = []
+goes Parameters = k.Comma ∷ texts_go
+goes Parameter = texts_go
+goes FurtherParameter = texts_go
+goes Default = texts_go
 goes VariableName = []
 goes Reference = []
 goes Spread = []
@@ -97,6 +104,17 @@ goes Field = field_goes
 goes FurtherField = field_goes
 goes LastComma = []
 goes QuestionMark = []
+
+-- The same of one production. An atom goes on behind a name and behind a callable, but never with `[` behind a name.
+abbrev pub rule_goes : Rule → List DocKind
+rule_goes group = []
+rule_goes this = []
+rule_goes literal = []
+rule_goes shape = []
+rule_goes range = []
+rule_goes member = []
+rule_goes name = k.Below ∷ k.LeftBrace ∷ k.LeftParenthesis ∷ k.DoubleColon ∷ []
+rule_goes r = goes (sort_of r)
 
 -- ---- the tests
 
@@ -139,13 +157,23 @@ leads (Word ks ∷ xs) = true
 leads (Any stop ∷ xs) = false
 leads (Part n s ∷ xs) = implies (lacks n) (leads xs)
 
+abbrev pub is_tag : Sort → Bool
+is_tag Tag = true
+is_tag s = false
+
+-- whether a longer part of this need and sort makes a better tree. No tag is a part.
+abbrev pub settled : Need → Sort → Bool
+settled n Tag = false
+settled One Default = false
+settled n s = true
+
 -- Behind a part nothing begins with a token of its `goes`. Behind one that may lack nothing begins like it. A closing bracket ends a text of any tokens.
 abbrev pub fine : List Symbol → Bool
 fine [] = true
 fine (Mark kind ∷ xs) = not (is_end kind) && fine xs
 fine (Word ks ∷ xs) = fine xs
 fine (Any stop ∷ xs) = closes xs && fine xs
-fine (Part n s ∷ xs) = leads xs && (apart (goes s) (firsts (rest n s xs)) && (implies (lacks n) (apart (begins s) (firsts xs)) && fine xs))
+fine (Part n s ∷ xs) = (leads xs && settled n s) && (apart (goes s) (firsts (rest n s xs)) && (implies (lacks n) (apart (begins s) (firsts xs)) && fine xs))
 
 -- The productions for which the descent alone is not enough.
 abbrev pub is_special : Rule → Bool

@@ -1,0 +1,4 @@
+pub mod BracketLemmas
+pub mod Prefixes
+pub mod PartingLemmas
+pub mod ConditionLemmas
