@@ -1,4 +1,4 @@
-//! Laws of the trees of statements and files: a tree is as deep as its productions, and tokens have those of one tree.
+//! Laws of the trees of statements and files: productions have one tree, a tree is as deep as its productions, tokens have one tree.
 #![tactic(auto)]
 
 pub mod laws;

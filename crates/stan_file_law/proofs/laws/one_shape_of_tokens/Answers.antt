@@ -1,9 +1,0 @@
-use Rattle.stan_model_statements.specs.Tops as tops
-use Rattle.stan_model_files.specs.Put.{put_top}
-use Rattle.stan_model_files.specs.Shapes.{nil, forest}
-use Rattle.stan_file_law.proofs.Shapes.{one_forest, same_shape}
-use Rattle.stan_file_law.proofs.laws.one_shape_of_tokens.Goals as goal
-
-pub returns : goal.returns
-returns c = λ ts named x y from to h i.
-    same_shape ts named (put_top x nil) (put_top y nil) from (one_forest ts named tops.top (forest (put_top x nil)) (forest (put_top y nil)) from to h.spelled i.spelled) h.held i.held
