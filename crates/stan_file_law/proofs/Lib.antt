@@ -1,0 +1,4 @@
+pub mod Depths
+pub mod Parts
+pub mod Same
+pub mod Shapes

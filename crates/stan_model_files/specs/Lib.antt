@@ -1,0 +1,6 @@
+-- ---- trees by productions
+pub mod Shapes
+pub mod Put
+-- ---- files
+pub mod Files
+pub mod Owners
