@@ -1,4 +1,4 @@
--- Which of two owners a comment belongs to.
+-- Comments, one by one, and the owners that are left.
 use Rattle.std.proofs.Common.{◌≡◌, ℕ, ◌+◌, ◌≤◌, ◌<◌, List, [], ◌∷◌, ◌++◌, length, get_or, take, Option, Some, refl, sym, ap, ap₂, ◌∙◌, arith}
 use Rattle.std.specs.Prelude.{map, slice_get}
 use Rattle.std.proofs.lemmas.List.{map_push, take_more}
@@ -6,12 +6,6 @@ use Rattle.std.proofs.lemmas.Option.{slice_get-get_or}
 use Rattle.stan_model_grammar.specs.declared.token.Token.{Token}
 use Rattle.stan_model_files.specs.Owners.{owner_of}
 use Rattle.stan_owners.specs.Order.{IsInOrder}
-
-pub passed_over : (o : Token) (os : List Token) (c : Token) → o.start ≤ c.start → owner_of (o ∷ os) c ≡ owner_of os c
-passed_over o os c h = grind (arith, h)
-
-pub owned : (o : Token) (os : List Token) (c : Token) → c.start < o.start → owner_of (o ∷ os) c ≡ Some o
-owned o os c h = grind (arith, h)
 
 -- one comment more: what was found, and who is left
 pub one_more : (owners comments rest left : List Token) (found more : List (Option Token)) (pushed : Option Token) (i : ℕ) (d : Token)
