@@ -1,15 +1,14 @@
 -- How deep a tree of statements is, is how deep its productions are.
-use Rattle.std.proofs.Common.{◌≡◌, ℕ, zero, ◌+◌, max, Bool, true, false, List, [], ◌∷◌, Option, Some, None, refl, sym, ap, ◌∙◌, arith}
+use Rattle.std.proofs.Common.{◌≡◌, ◌+◌, max, Bool, true, false, List, [], ◌∷◌, Option, Some, None, refl, ◌∙◌, arith}
 use Rattle.stan_model_grammar.specs.declared.token.Token.{Token}
 use Rattle.stan_model_grammar.specs.declared.token.TokenKind.TheVariants as k
-use Rattle.stan_model_grammar.specs.Depth.{depth as tree_depth}
 use Rattle.stan_model_grammar.specs.Trees.{TypeTree, Nullable, Union}
 use Rattle.stan_model_statements.specs.Kinds.{same_kind}
 use Rattle.stan_model_statements.specs.Rules as r
 use Rattle.stan_model_statements.specs.Rules.{weight}
 use Rattle.stan_model_statements.specs.Depth as model
 use Rattle.stan_model_statements.specs.Trees.{Adapting, InsteadOf, Alias, Adaptation, Value, value, Bodies, no_body, body, MayValue, no_value, some_value, Values, no_more_value, more_value, Statement, node, Form, Block, Empty, Expression, Echo, Return, If, While, Do, For, ForEach, Switch, Break, Continue, Try, Unset, Global, Static, Const, Declare, Function, Class, Interface, Trait, Statements, no_statement, statement, MayStatement, no_else, else, MayBlock, no_block, block, ElseIfs, no_else_if, else_if, Cases, no_case, case, Catches, no_catch, catch, Variables, no_variable, variable, Constants, no_constant, constant, Parameters, no_parameter, parameter, Members, no_member, member, Member, TraitUse, ClassConstants, Method, Properties, Used, Top, Namespace, NamespaceBlock, Use, UseGroup, Plain, Tops, no_top, top}
-use Rattle.stan_model_files.specs.Shapes.{Shape, nil, mark, word, expr, none, some, depth, bodies_depth}
+use Rattle.stan_model_files.specs.Shapes.{Shape, nil, mark, word, none, some, depth, bodies_depth}
 use Rattle.stan_model_files.specs.Put as p
 
 -- ---- what is put without an expression has no depth, where its productions have none

@@ -6,7 +6,7 @@ use Rattle.stan_model_grammar.specs.Trees.{TypeTree, Nullable, Union}
 use Rattle.stan_model_statements.specs.Kinds.{same_kind}
 use Rattle.stan_model_statements.specs.Rules as r
 use Rattle.stan_model_statements.specs.Trees.{Adapting, InsteadOf, Alias, Adaptation, Used}
-use Rattle.stan_model_files.specs.Shapes.{Shape, nil, mark, word, expr, none, some}
+use Rattle.stan_model_files.specs.Shapes.{Shape, nil, mark, word, none, some}
 use Rattle.stan_model_files.specs.Put.{may_word, flag, words, further_words, first_words, list_end, put_names, may_names, may_extend, put_type, may_type, may_return, put_union, may_property_type, put_from, put_alias, put_adapting, put_adaptations, put_use_end, may_alias, put_name, put_group_item, put_item, put_item_by, further_items, first_items}
 
 pub same_flag : (r : r.Rule) (a b : Bool) (f g : Shape) → flag r a f ≡ flag r b g → (a ≡ b) × (f ≡ g)

@@ -1,5 +1,5 @@
 -- What is put of statements, declarations and files is put of one tree alone.
-use Rattle.std.proofs.Common.{◌≡◌, ℕ, Bool, true, false, List, [], ◌∷◌, Option, Some, None, refl, sym, ap, ap₂, ◌∙◌, arith}
+use Rattle.std.proofs.Common.{◌≡◌, ℕ, Bool, true, false, List, [], ◌∷◌, Option, Some, None, refl, sym, ap, ◌∙◌, arith}
 use Rattle.stan_model_grammar.specs.declared.token.Token.{Token}
 use Rattle.stan_model_grammar.specs.Sites.{HeldBody}
 use Rattle.stan_model_grammar.specs.Trees.{Tree, TypeTree}
@@ -8,7 +8,7 @@ use Rattle.stan_model_statements.specs.Trees.{Adaptation, Value, value, Bodies, 
 use Rattle.stan_model_files.specs.Shapes as shapes
 use Rattle.stan_model_files.specs.Shapes.{Shape, nil, mark, word, expr, none, some}
 use Rattle.stan_model_files.specs.Put as p
-use Rattle.stan_file_law.proofs.Parts.{same_flag, same_may_word, same_words, same_further_words, same_first_words, same_list_end, same_names, same_may_names, same_may_extend, same_may_type, same_may_return, same_property_type, same_use_end, same_item, same_group_item, item_stands, group_item_stands, same_first_items}
+use Rattle.stan_file_law.proofs.Parts.{same_flag, same_may_word, same_words, same_first_words, same_list_end, same_names, same_may_names, same_may_extend, same_may_type, same_may_return, same_property_type, same_use_end, same_item, same_group_item, item_stands, group_item_stands, same_first_items}
 
 -- ---- the parts of what is put
 
