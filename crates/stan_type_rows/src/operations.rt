@@ -187,11 +187,7 @@ fn template(
 }
 
 // The last key of the written ones has the last type.
-fn shape(
-    alloc: Global,
-    types: &mut Vec<PhpType>,
-    keys: &str,
-) -> Result<Option<Part>, OutOfMemory> {
+fn shape(alloc: Global, types: &mut Vec<PhpType>, keys: &str) -> Result<Option<Part>, OutOfMemory> {
     let mut fields = Vec::new(alloc);
     for word in keys.rsplit(',') {
         if !word.is_empty() {
