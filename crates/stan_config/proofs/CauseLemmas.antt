@@ -1,12 +1,12 @@
 -- What a file and its includes mean, and why they are refused, from what is told of their parts.
-use Rattle.std.proofs.Common.{◌≡◌, ◌∙◌, ℕ, suc, Bool, true, false, List, [], ◌∷◌, ◌++◌, Result, Ok, Err, refl, sym, ap, subst}
+use Rattle.std.proofs.Common.{◌≡◌, ◌∙◌, ℕ, suc, Bool, true, false, List, [], ◌∷◌, ◌++◌, Result, Ok, Err, sym, ap, subst}
 use Rattle.std.specs.Prelude.{IfOk, IfErr, codes}
 use Rattle.std.specs.List.{list_any}
 use Rattle.stan_outside.specs.Contents.{Contents}
 use Rattle.stan_config_said.specs.declared.content.Said.{Said as CodeSaid}
 use Rattle.stan_config_said.specs.Views.{said_view}
 use Rattle.stan_model_config.specs.Faults.{is_among}
-use Rattle.stan_model_config.specs.Said.{Said, Content, nothing}
+use Rattle.stan_model_config.specs.Said.{Said, Content}
 use Rattle.stan_model_config.specs.Files.{Neon, Stop, BadConfig, Found, then_ok, content_at, found_at, each_include, found_beside, found_over, alone, begun, over, beside}
 use Rattle.stan_config.specs.declared.stop.ConfigStop.{ConfigStop}
 use Rattle.stan_config.specs.Neon.{IsNeon, IsMeant}
@@ -44,24 +44,24 @@ module _ (contents : Contents) (is_listed : List ℕ → Bool) (left : ℕ) (cha
           ∙ refused_includes (found_at (content_at neon contents is_listed) less (chain ++ file ∷ [])) (chain ++ file ∷ []) read file content (subst (λ l. list_any (λ include. is_among l include) content.includes ≡ true) is_longer back)
           ∙ (λ i. Err (BadConfig (sym e i) (sym f i)))
 
-      module _ (none : list_any (λ include. is_among longer include) content.includes ≡ false) (after : List (List ℕ)) (is_after : after ≡ begun read file) (mid : Contents) (same : mid ≡ contents) where
-        opened : (answer : Result Found Stop) (neon : Neon) → IsNeon neon → tells → includes_mean mid is_listed less longer (found_nothing after) content.includes neon ≡ answer
+      module _ (none : list_any (λ include. is_among longer include) content.includes ≡ false) (after : List (List ℕ)) (is_after : after ≡ begun read file) (mid : Contents) (same : mid ≡ contents) (includes : List (List ℕ)) (are : includes ≡ content.includes) where
+        opened : (answer : Result Found Stop) (neon : Neon) → IsNeon neon → tells → includes_mean mid is_listed less longer (found_nothing after) includes neon ≡ answer
             → file_means contents is_listed left chain read file neon ≡ then_ok answer (λ under. Ok (found_over content.said under))
         opened answer neon is told e =
             let there : each_include (found_at (content_at neon contents is_listed) less (chain ++ file ∷ [])) (found_nothing (begun read file)) content.includes ≡ answer =
-            (λ i. each_include (found_at (content_at neon (sym same i) is_listed) less (sym is_longer i)) (found_nothing (sym is_after i)) content.includes) ∙ e in
+            (λ i. each_include (found_at (content_at neon (sym same i) is_listed) less (sym is_longer i)) (found_nothing (sym is_after i)) (sym are i)) ∙ e in
             found_with (content_at neon contents is_listed) left less chain read file content is_more (by_file told neon is)
             ∙ good_includes (found_at (content_at neon contents is_listed) less (chain ++ file ∷ [])) (chain ++ file ∷ []) read file content answer
             (subst (λ l. list_any (λ include. is_among l include) content.includes ≡ false) is_longer none) there
 
         -- its includes are refused, or not
-        pub includes_refused : (tells_mid rose_mid : Type 0) → (tells → tells_mid) → (rose_mid → rose) → (stop : ConfigStop) → IsCause tells_mid rose_mid (includes_mean mid is_listed less longer (found_nothing after) content.includes) stop
+        pub includes_refused : (tells_mid rose_mid : Type 0) → (tells → tells_mid) → (rose_mid → rose) → (stop : ConfigStop) → IsCause tells_mid rose_mid (includes_mean mid is_listed less longer (found_nothing after) includes) stop
             → IsCause tells rose (file_means contents is_listed left chain read file) stop
         includes_refused tells_mid rose_mid told rises =
-            cause_after tells_mid rose_mid tells rose (includes_mean mid is_listed less longer (found_nothing after) content.includes) (file_means contents is_listed left chain read file) told rises
+            cause_after tells_mid rose_mid tells rose (includes_mean mid is_listed less longer (found_nothing after) includes) (file_means contents is_listed left chain read file) told rises
             (λ t neon is stop e. opened (Err stop) neon is t e)
 
-        pub includes_good : (tells_mid : Type 0) → (tells → tells_mid) → (under all : Said) (last : List (List ℕ)) → (tells_mid → IsMeant (includes_mean mid is_listed less longer (found_nothing after) content.includes) (Ok (record { said = under; read = last })))
+        pub includes_good : (tells_mid : Type 0) → (tells → tells_mid) → (under all : Said) (last : List (List ℕ)) → (tells_mid → IsMeant (includes_mean mid is_listed less longer (found_nothing after) includes) (Ok (record { said = under; read = last })))
             → all ≡ over content.said under → tells → IsMeant (file_means contents is_listed left chain read file) (Ok (record { said = all; read = last }))
         includes_good tells_mid told under all last means e t neon is =
             opened (Ok (record { said = under; read = last })) neon is t (means (told t) neon is) ∙ ap (λ s. Ok (record { said = s; read = last })) (sym e)
@@ -73,14 +73,14 @@ module _ (contents : Contents) (is_listed : List ℕ → Bool) (left : ℕ) (cha
   at_file told neon is = so_far told neon is ∙ ap (λ r. includes_mean contents is_listed left chain found r neon) is_rest
 
   pub was_before : is_among found.read file ≡ true → tells → (neon : Neon) → IsNeon neon → includes_mean contents is_listed left chain start includes neon ≡ includes_mean contents is_listed left chain found files neon
-  was_before yes told neon is = at_file told neon is ∙ read_before (found_at (content_at neon contents is_listed) left chain) found file files yes
+  was_before is_in told neon is = at_file told neon is ∙ read_before (found_at (content_at neon contents is_listed) left chain) found file files is_in
 
-  module _ (no : is_among found.read file ≡ false) (mid : Contents) (same : mid ≡ contents) where
+  module _ (not_in : is_among found.read file ≡ false) (mid : Contents) (same : mid ≡ contents) where
     stepped : (answer : Result Found Stop) → tells → (neon : Neon) → IsNeon neon → file_means mid is_listed left chain found.read file neon ≡ answer
         → includes_mean contents is_listed left chain start includes neon ≡ then_ok answer (λ first. includes_mean contents is_listed left chain (found_beside found.said first) files neon)
     stepped answer told neon is e =
         at_file told neon is
-        ∙ read_now (found_at (content_at neon contents is_listed) left chain) found file files answer no ((λ i. found_at (content_at neon (sym same i) is_listed) left chain found.read file) ∙ e)
+        ∙ read_now (found_at (content_at neon contents is_listed) left chain) found file files answer not_in ((λ i. found_at (content_at neon (sym same i) is_listed) left chain found.read file) ∙ e)
 
     pub include_refused : (rose tells_mid rose_mid : Type 0) → (tells → tells_mid) → (rose_mid → rose) → (stop : ConfigStop) → IsCause tells_mid rose_mid (file_means mid is_listed left chain found.read file) stop
         → IsCause tells rose (includes_mean contents is_listed left chain start includes) stop

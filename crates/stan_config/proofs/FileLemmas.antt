@@ -1,7 +1,6 @@
 -- One file, read and judged.
-use Rattle.std.proofs.Common.{◌≡◌, ◌∙◌, ℕ, Bool, true, false, List, [], take, Option, Some, None, IfSome, IsSome, is_some, Result, Ok, Err, refl, sym, ap}
+use Rattle.std.proofs.Common.{◌≡◌, ◌∙◌, ℕ, Bool, true, false, List, [], take, Option, Some, None, IfSome, IsSome, Result, Ok, Err, sym, ap}
 use Rattle.std.specs.Prelude.{IfOk, IfErr, unwrap_or}
-use Rattle.std.specs.FinMap as finite
 use Rattle.std.proofs.lemmas.Bool.{cond-true, cond-false}
 use Rattle.stan_outside.specs.Contents.{Contents}
 use Rattle.stan_model_neon.specs.declared.node.Node.{Node}
@@ -11,7 +10,7 @@ use Rattle.stan_config_said.specs.Views.{content_view}
 use Rattle.stan_model_config.specs.Faults.{file_fault}
 use Rattle.stan_model_config.specs.Files.{Neon, Missing, BadNeon, judged, read_as, content_at, text_at, most_read}
 use Rattle.stan_config.specs.declared.stop.ConfigStop.{ConfigStop}
-use Rattle.stan_config.specs.Neon.{IsNeon, IsMeant}
+use Rattle.stan_config.specs.Neon.{IsMeant}
 use Rattle.stan_config.specs.Stops.{IsCause}
 use Rattle.stan_config.proofs.NeonLemmas.{neon_tree, neon_bad}
 use Rattle.stan_config.proofs.StopLemmas.{cause_after}
@@ -40,20 +39,20 @@ text_of_file (Some all) bytes some e = e
 
 module _ (contents : Contents) (is_listed : List ℕ → Bool) (file bytes : List ℕ) (tells : Type 0) where
   listed_means : is_listed file ≡ true → bytes ≡ text_at contents file → (neon : Neon) → content_at neon contents is_listed file ≡ read_as file (neon bytes)
-  listed_means yes e neon = cond-true (is_listed file) _ _ yes ∙ ap (λ text. read_as file (neon text)) (sym e)
+  listed_means is_in e neon = cond-true (is_listed file) _ _ is_in ∙ ap (λ text. read_as file (neon text)) (sym e)
 
   pub file_good : is_listed file ≡ true → (tells → bytes ≡ text_at contents file) → (result : Result Content ConfigStop) → IfOk result (λ content. IsMeant (λ neon. read_as file (neon bytes)) (Ok (content_view content)))
       → IfOk result (λ content. tells → IsMeant (λ neon. content_at neon contents is_listed file) (Ok (content_view content)))
-  file_good yes e (Ok content) h = λ told neon is. listed_means yes (e told) neon ∙ h neon is
-  file_good yes e (Err stop) h = h
+  file_good is_in e (Ok content) h = λ told neon is. listed_means is_in (e told) neon ∙ h neon is
+  file_good is_in e (Err stop) h = h
 
   pub file_refused : (rose : Type 0) → is_listed file ≡ true → (tells → bytes ≡ text_at contents file) → (result : Result Content ConfigStop) → IfErr result (λ stop. IsCause (Unit {0}) ⊥ (λ neon. read_as file (neon bytes)) stop)
       → IfErr result (λ stop. IsCause tells rose (λ neon. content_at neon contents is_listed file) stop)
-  file_refused rose yes e (Ok content) h = h
-  file_refused rose yes e (Err stop) h =
+  file_refused rose is_in e (Ok content) h = h
+  file_refused rose is_in e (Err stop) h =
       cause_after (Unit {0}) ⊥ tells rose (λ neon. read_as file (neon bytes)) (λ neon. content_at neon contents is_listed file) (λ t. tt) (λ r. absurd r)
-      (λ told neon is s f. listed_means yes (e told) neon ∙ f) stop h
+      (λ told neon is s f. listed_means is_in (e told) neon ∙ f) stop h
 
 -- a file that isn't listed
 pub file_missing : (contents : Contents) (is_listed : List ℕ → Bool) (file path : List ℕ) → is_listed file ≡ false → path ≡ file → IsMeant (λ neon. content_at neon contents is_listed file) (Err (Missing path))
-file_missing contents is_listed file path no e = λ neon is. cond-false (is_listed file) _ _ no ∙ ap (λ p. Err (Missing p)) (sym e)
+file_missing contents is_listed file path not_in e = λ neon is. cond-false (is_listed file) _ _ not_in ∙ ap (λ p. Err (Missing p)) (sym e)

@@ -1,5 +1,5 @@
 -- A folder that is kept step by step is kept.
-use Rattle.std.proofs.Common.{◌≡◌, ◌∙◌, ℕ, ◌≤◌, refl, arith}
+use Rattle.std.proofs.Common.{◌∙◌, ℕ, refl, arith}
 use Rattle.stan_outside.specs.Contents.{Contents}
 use Rattle.stan_outside.specs.Outside.{Rose}
 use Rattle.stan_config.specs.Folder.{KeepsTree}

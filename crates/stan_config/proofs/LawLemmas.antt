@@ -1,11 +1,11 @@
 -- Every project has one answer.
-use Rattle.std.proofs.Common.{◌≡◌, ◌∙◌, ◌⊎◌, ℕ, List, [], Option, Some, None, Result, Ok, Err, inl, inr, refl, sym, ap}
+use Rattle.std.proofs.Common.{◌≡◌, ◌∙◌, ◌⊎◌, ℕ, List, [], Some, Result, Ok, Err, inl, inr, ap}
 use Rattle.stan_model_neon.specs.declared.node.Node.{Node}
 use Rattle.stan_neon.specs.Texts.{IsTreeOf, IsBadAt}
 use Rattle.stan_neon.proofs.DocumentLemmas.{answered}
 use Rattle.stan_outside.specs.Contents.{Contents}
 use Rattle.stan_model_config.specs.Faults.{is_among}
-use Rattle.stan_model_config.specs.Files.{Neon, Stop, Asked, content_at, root_of, configuration, configured, found_at, most_includes, then_ok, said_from, with_paths, meaning}
+use Rattle.stan_model_config.specs.Files.{Neon, Stop, Asked, content_at, root_of, configuration, most_includes, then_ok, said_from, with_paths, meaning}
 use Rattle.stan_config.specs.Neon.{IsReadAs, IsNeon}
 use Rattle.stan_config.proofs.NeonLemmas.{neon_tree, neon_bad}
 use Rattle.stan_config.proofs.WalkLemmas.{found_err}

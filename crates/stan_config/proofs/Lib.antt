@@ -4,5 +4,6 @@ pub mod NeonLemmas
 pub mod StopLemmas
 pub mod WalkLemmas
 pub mod FolderLemmas
+pub mod ProjectLemmas
 pub mod LawLemmas
 pub mod ListLemmas

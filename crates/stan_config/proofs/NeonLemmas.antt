@@ -1,5 +1,5 @@
 -- What NEON says of a text is what the text is.
-use Rattle.std.proofs.Common.{◌≡◌, ◌∙◌, ℕ, List, Result, Ok, Err, refl, sym, ap}
+use Rattle.std.proofs.Common.{◌≡◌, ℕ, List, Result, Ok, Err, ap}
 use Rattle.stan_model_neon.specs.declared.node.Node.{Node}
 use Rattle.stan_neon.specs.Texts.{IsTreeOf, IsBadAt}
 use Rattle.stan_neon.proofs.DocumentLemmas.{one-tree, one-bad-line, tree-or-bad}

@@ -1,6 +1,6 @@
 -- A stop of one step is a stop of the steps that begin with it.
-use Rattle.std.proofs.Common.{◌≡◌, ◌∙◌, ℕ, ◌<◌, ◌≤◌, ◌+◌, List, Result, Ok, Err, refl, sym, ap, inl, inr, arith}
-use Rattle.stan_model_config.specs.Files.{Neon, Stop, then_ok}
+use Rattle.std.proofs.Common.{◌≡◌, ℕ, ◌≤◌, Result, Err, inl, inr, arith}
+use Rattle.stan_model_config.specs.Files.{Neon, Stop}
 use Rattle.stan_config.specs.declared.stop.ConfigStop.{ConfigStop}
 use Rattle.stan_config.specs.declared.stop.ConfigStop.TheVariants as stops
 use Rattle.stan_config.specs.Neon.{IsNeon}
@@ -21,4 +21,3 @@ cause_after tells_first rose_first tells rose first whole told rises then stops.
 pub Rose_later : (a b c : ℕ) → a ≤ b → Rose b c → Rose a c
 Rose_later a b c le (inl lt) = inl (omega arith)
 Rose_later a b c le (inr e) = inr e
-

@@ -1,10 +1,10 @@
 -- A file and its includes, step by step.
-use Rattle.std.proofs.Common.{◌≡◌, ◌∙◌, ℕ, zero, suc, ◌+◌, ◌-◌, ◌<◌, ◌≤◌, Bool, true, false, cond, List, [], ◌∷◌, ◌++◌, length, Result, Ok, Err, refl, sym, ap, subst, arith}
+use Rattle.std.proofs.Common.{◌≡◌, ◌∙◌, ℕ, zero, suc, true, false, List, [], ◌∷◌, ◌++◌, Result, Ok, Err, ap, arith}
 use Rattle.std.specs.Prelude.{codes}
 use Rattle.std.specs.List.{list_any}
 use Rattle.std.proofs.lemmas.Bool.{cond-true, cond-false}
 use Rattle.stan_model_config.specs.Faults.{is_among}
-use Rattle.stan_model_config.specs.Said.{Said, Content, nothing}
+use Rattle.stan_model_config.specs.Said.{Content, nothing}
 use Rattle.stan_model_config.specs.Files.{Stop, BadConfig, Found, Reader, then_ok, found_at, each_include, found_beside, found_over, alone, with_includes, begun}
 
 -- ---- what stands in a file
@@ -37,9 +37,9 @@ good_includes reader chain read file content answer none e =
 -- ---- the includes, one by one
 
 pub read_before : (reader : Reader) (found : Found) (file : List ℕ) (files : List (List ℕ)) → is_among found.read file ≡ true → each_include reader found (file ∷ files) ≡ each_include reader found files
-read_before reader found file files yes = cond-true (is_among found.read file) _ _ yes
+read_before reader found file files is_in = cond-true (is_among found.read file) _ _ is_in
 
 pub read_now : (reader : Reader) (found : Found) (file : List ℕ) (files : List (List ℕ)) (answer : Result Found Stop) → is_among found.read file ≡ false → reader found.read file ≡ answer
     → each_include reader found (file ∷ files) ≡ then_ok answer (λ first. each_include reader (found_beside found.said first) files)
-read_now reader found file files answer no e =
-    cond-false (is_among found.read file) _ _ no ∙ ap (λ r. then_ok r (λ first. each_include reader (found_beside found.said first) files)) e
+read_now reader found file files answer not_in e =
+    cond-false (is_among found.read file) _ _ not_in ∙ ap (λ r. then_ok r (λ first. each_include reader (found_beside found.said first) files)) e

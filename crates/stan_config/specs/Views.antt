@@ -1,5 +1,5 @@
 -- What words ask for and what a configuration says.
-use Rattle.std.specs.Prelude.{ℕ, List, map, option_map, string_bytes, Vec, String}
+use Rattle.std.specs.Prelude.{map, option_map, string_bytes, Vec, String}
 use Rattle.std.specs.declared.alloc.Global.{Global}
 use Rattle.stan_settings.specs.declared.Config.{Config}
 use Rattle.stan_settings.specs.declared.Words.{Words}

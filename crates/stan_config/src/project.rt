@@ -8,16 +8,17 @@ ghost use Rattle.stan_config.specs.Folder.{AreHeld, KeepsTree};
 ghost use Rattle.stan_config_paths.specs.TextSet.{has};
 ghost use Rattle.stan_config_said.specs.Views.{said_view};
 ghost use Rattle.stan_model_config.specs.Faults.{is_among};
-ghost use Rattle.stan_model_config.specs.Paths.{normal_path};
+ghost use Rattle.stan_paths.specs.Paths.{normal_path};
 ghost use Rattle.stan_model_config.specs.Files as model;
 ghost use Rattle.stan_outside.specs.Outside.{Rose};
 
 use crate::ConfigStop;
 use crate::walk::found_at;
 use stan_base::OutOfMemory;
-use stan_config_paths::{TextSet, normal_path};
+use stan_config_paths::TextSet;
 use stan_config_said::Said;
 use stan_outside::Tree;
+use stan_paths::normal_path;
 use stan_settings::{Config, Words};
 use std::alloc::Global;
 
@@ -155,7 +156,15 @@ fn said_from<T: Tree>(
     match root {
         Some(file) => {
             let mut read = Vec::new(alloc);
-            found_at(alloc, tree, listed, MOST_INCLUDES, &[], &mut read, file.as_str())
+            found_at(
+                alloc,
+                tree,
+                listed,
+                MOST_INCLUDES,
+                &[],
+                &mut read,
+                file.as_str(),
+            )
         }
         None => Ok(Said::nothing(alloc)),
     }

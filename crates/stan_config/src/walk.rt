@@ -39,7 +39,9 @@ fn is_on(chain: &[&str], file: &str) -> bool
 fn lead_back(chain: &[&str], includes: &[String]) -> bool
     ensures { result ≡ list_any (λ include. is_among (map (λ other. other.now) chain.now) include) (map string_bytes includes.now) }
 {
-    includes.iter().any(|include| is_on(chain, include.as_str()))
+    includes
+        .iter()
+        .any(|include| is_on(chain, include.as_str()))
 }
 
 fn longer<'a>(alloc: Global, chain: &[&'a str], file: &'a str) -> Result<Vec<&'a str>, OutOfMemory>

@@ -1,5 +1,5 @@
 use Rattle.std.proofs.Common.{◌≡◌, map, take, string_bytes}
-use Rattle.stan_model_config.specs.Paths.{normal_path}
+use Rattle.stan_paths.specs.Paths.{normal_path}
 use Rattle.stan_config.proofs.project.normal_paths.Given as goal
 
 -- the normal forms of the paths so far
