@@ -43,7 +43,7 @@ fn no_words(alloc: Global) -> Result<Asked, OutOfMemory> {
     })
 }
 
-pub fn asked(alloc: Global, text: &str) -> Result<Asked, OutOfMemory> {
+pub fn words_asked(alloc: Global, text: &str) -> Result<Asked, OutOfMemory> {
     let mut asked = no_words(alloc)?;
     let given = words(alloc, text)?;
     for at in 0..given.len() {

@@ -1,6 +1,6 @@
 //! What is read of a row's project.
 
-use crate::project::{asked, files};
+use crate::project::{files, words_asked};
 use crate::shown::{config_text, stop_text};
 use stan_base::OutOfMemory;
 use stan_config::load;
@@ -62,7 +62,7 @@ fn played(
     if !are_files(&files) {
         return Ok(String::from_str(alloc, "no project")?);
     }
-    let asked = asked(alloc, words)?;
+    let asked = words_asked(alloc, words)?;
     let mut tree = MemoryTree::new(files, asked.failing);
     let listed = match tree.list(alloc) {
         Ok(listed) => listed,
