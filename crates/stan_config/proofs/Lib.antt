@@ -1,0 +1,9 @@
+pub mod CauseLemmas
+pub mod FileLemmas
+pub mod NeonLemmas
+pub mod StopLemmas
+pub mod WalkLemmas
+pub mod FolderLemmas
+pub mod ProjectLemmas
+pub mod LawLemmas
+pub mod ListLemmas

@@ -1,0 +1,26 @@
+-- What words ask for and what a configuration says.
+use Rattle.std.specs.Prelude.{map, option_map, string_bytes, Vec, String}
+use Rattle.std.specs.declared.alloc.Global.{Global}
+use Rattle.stan_settings.specs.declared.Config.{Config}
+use Rattle.stan_settings.specs.declared.Words.{Words}
+use Rattle.stan_config_said.specs.declared.content.Said.{Said}
+use Rattle.stan_config_said.specs.Views.{entry_view, said_view}
+use Rattle.stan_model_config.specs.Files as model
+
+abbrev pub asked : Words → model.Asked
+asked words = record { configuration = option_map string_bytes words.configuration; level = words.level; paths = map string_bytes words.paths.items }
+
+abbrev pub config_view : Config → model.Meaning
+config_view config = record {
+  level = config.level;
+  paths = map string_bytes config.paths.items;
+  exclude = map string_bytes config.exclude.items;
+  scan_files = map string_bytes config.scan_files.items;
+  scan_directories = map string_bytes config.scan_directories.items;
+  ignore = map entry_view config.ignore.items;
+  report = config.report_unmatched;
+}
+
+-- what was said, and which files were read
+abbrev pub found_view : Vec (String Global) Global → Said → model.Found
+found_view read said = record { said = said_view said; read = map string_bytes read.items }
