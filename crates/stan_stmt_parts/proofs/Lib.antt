@@ -1,3 +1,3 @@
 pub mod Singles
 pub mod Turns
-pub mod Words
+pub mod KindLemmas

@@ -15,7 +15,7 @@ use Rattle.stan_stmt_rules.specs.Parse.{after, after_of, word_at, word_of, most,
 use Rattle.stan_stmt_parts.specs.declared.depth.Depth.{Depth}
 use Rattle.stan_stmt_parts.specs.Parse.{Piece, pieced, first_at, one, run, read}
 use Rattle.stan_stmt_parts.specs.Gives.{Leaves, below, part, maybe, every, inside, made, enter, entered}
-use Rattle.stan_stmt_parts.proofs.Words.{truth, subset, fewer, same_is}
+use Rattle.stan_stmt_parts.proofs.KindLemmas.{truth, subset, fewer, same_is}
 
 -- Whether what begins so stands only where one of these kinds does.
 abbrev pub begins_with : List TokenKind → List Symbol → Bool

@@ -4,3 +4,4 @@
 
 pub mod depth;
 pub mod parser;
+pub mod words;

@@ -1,10 +1,10 @@
 //! The parser: what stands at a place, and parts that may stand or stand behind one another.
 
-ghost use Rattle.std.specs.Prelude.{◌≡◌, ◌<◌, ◌+◌, ◌^◌, ◌∷◌, IfOk, Bool, ℕ, List, length, map, option_map};
+ghost use Rattle.std.specs.Prelude.{◌≡◌, ◌<◌, ◌≤◌, ◌+◌, ◌^◌, ◌∷◌, IfOk, Bool, ℕ, List, length, map, option_map};
 ghost use Rattle.std.specs.Option.{is_some};
 ghost use Rattle.stan_model_grammar.specs.declared.token.TokenKind.{TokenKind};
 ghost use Rattle.stan_model_grammar.specs.Strata as strata;
-ghost use Rattle.stan_model_statements.specs.Kinds as kinds;
+ghost use Rattle.stan_model_statements.specs.Kinds.{has, same_kind};
 ghost use Rattle.stan_model_statements.specs.Symbols as sorts;
 ghost use Rattle.stan_places.specs.Gives.{Gives, at};
 ghost use Rattle.stan_stmt_parts.specs.Gives as spec;
@@ -19,6 +19,7 @@ use sqlite_items::Items;
 use stan_model_grammar::token::{Token, TokenKind};
 use stan_places::places::{kind_at, next_kind, token_at};
 use stan_places::stop::Stop;
+use stan_stmt_ahead::kinds::is_modifier;
 use stan_stmt_trees::{Stmt, Value};
 use std::alloc::Global;
 
@@ -26,8 +27,8 @@ use std::alloc::Global;
 pub trait Reader {
     ghost leaves: { Self → Leaves };
 
-    /// Whether it may be called with so much room.
-    ghost ready: { Self → ℕ → Type 0 };
+    /// The most room with which it may be called.
+    ghost room: { Self → ℕ };
 
     /// Whether it is the word `strict_types`.
     fn is_strict_types(&self, token: Token) -> bool
@@ -43,7 +44,7 @@ pub trait Reader {
         place: usize,
     ) -> Result<(Value, usize), Stop>
         requires few { length tokens.now < 2 ^ 32 }
-        requires room { ready self.now depth.room }
+        requires room { depth.room ≤ room self.now }
         ensures { Gives (at value_of) result ((leaves self.now).value tokens.now depth.room depth.levels pattern place) };
 
     fn statement(
@@ -54,8 +55,16 @@ pub trait Reader {
         place: usize,
     ) -> Result<(Stmt, usize), Stop>
         requires few { length tokens.now < 2 ^ 32 }
-        requires room { ready self.now depth.room }
+        requires room { depth.room ≤ room self.now }
         ensures { Gives (at spec.statement_piece) result (spec.part tokens.now (leaves self.now) depth sorts.Statement place) };
+}
+
+/// Words of some kinds.
+pub trait Words {
+    ghost kinds: { List TokenKind };
+
+    fn include(kind: TokenKind) -> bool
+        ensures { result ≡ has kinds kind };
 }
 
 /// The tokens that are read, and what reads expressions and statements.
@@ -85,7 +94,7 @@ pub trait Part {
         depth: Depth,
         place: usize,
     ) -> Result<(Self::Tree, usize), Stop>
-        requires { R.ready parser.now.reader depth.room }
+        requires { depth.room ≤ R.room parser.now.reader }
         ensures { Gives (at view) result (spec.part parser.now.tokens.now (R.leaves parser.now.reader) depth sort place) };
 }
 
@@ -105,9 +114,57 @@ impl<'t, R: Reader> Parser<'t, R> {
         }
     }
 
+    /// A word of one of these kinds, and the place behind it.
+    #[tactic(auto, unfolding(stan_stmt_rules::specs::Parse::word_at))]
+    pub fn word<W: Words>(&self, place: usize) -> Result<(Token, usize), Stop>
+        ensures token { Gives (λ x. x.0) result (rules.word_at self.now.tokens.now W.kinds place) }
+        ensures behind { IfOk result (λ x. x.1 ≡ place + 1) }
+    {
+        let Some(token) = token_at(self.tokens, place) else {
+            return Err(Stop::Absent);
+        };
+        if W::include(token.kind) {
+            Ok((token, place + 1))
+        } else {
+            Err(Stop::Absent)
+        }
+    }
+
+    /// A modifier of a member, behind which no `|` stands.
+    #[tactic(auto, unfolding(stan_stmt_rules::specs::Parse::checked_at, stan_model_statements::specs::Kinds::same_kind))]
+    pub fn modifier(&self, place: usize) -> Result<(Token, usize), Stop>
+        ensures token { Gives (λ x. x.0) result (rules.checked_at self.now.tokens.now (R.leaves self.now.reader).named sorts.modifier place) }
+        ensures behind { IfOk result (λ x. x.1 ≡ place + 1) }
+    {
+        let Some(token) = token_at(self.tokens, place) else {
+            return Err(Stop::Absent);
+        };
+        if is_modifier(token.kind) && next_kind(self.tokens, place) != TokenKind::Bar {
+            Ok((token, place + 1))
+        } else {
+            Err(Stop::Absent)
+        }
+    }
+
+    /// The word `strict_types`.
+    #[tactic(auto, unfolding(stan_stmt_rules::specs::Parse::checked_at, stan_model_statements::specs::Kinds::same_kind))]
+    pub fn strict_types(&self, place: usize) -> Result<(Token, usize), Stop>
+        ensures token { Gives (λ x. x.0) result (rules.checked_at self.now.tokens.now (R.leaves self.now.reader).named sorts.strict_types place) }
+        ensures behind { IfOk result (λ x. x.1 ≡ place + 1) }
+    {
+        let Some(token) = token_at(self.tokens, place) else {
+            return Err(Stop::Absent);
+        };
+        if token.kind == TokenKind::Identifier && self.reader.is_strict_types(token) {
+            Ok((token, place + 1))
+        } else {
+            Err(Stop::Absent)
+        }
+    }
+
     /// An expression.
     pub fn value(&self, depth: Depth, pattern: bool, place: usize) -> Result<(Value, usize), Stop>
-        requires { R.ready self.now.reader depth.room }
+        requires { depth.room ≤ R.room self.now.reader }
         ensures { Gives (at value_of) result ((R.leaves self.now.reader).value self.now.tokens.now depth.room depth.levels pattern place) }
     {
         self.reader
@@ -116,7 +173,7 @@ impl<'t, R: Reader> Parser<'t, R> {
 
     /// A statement, as a part of another.
     pub fn statement(&self, depth: Depth, place: usize) -> Result<(Stmt, usize), Stop>
-        requires { R.ready self.now.reader depth.room }
+        requires { depth.room ≤ R.room self.now.reader }
         ensures { Gives (at spec.statement_piece) result (spec.part self.now.tokens.now (R.leaves self.now.reader) depth sorts.Statement place) }
     {
         self.reader.statement(self.alloc, self.tokens, depth, place)
@@ -124,7 +181,7 @@ impl<'t, R: Reader> Parser<'t, R> {
 
     /// Parts one behind the other, as many as there are.
     pub fn all<T: Part>(&self, depth: Depth, from: usize) -> Result<(Items<T::Tree>, usize), Stop>
-        requires { R.ready self.now.reader depth.room }
+        requires { depth.room ≤ R.room self.now.reader }
         ensures { Gives (at (map T.view)) result (spec.every self.now.tokens.now (R.leaves self.now.reader) depth T.sort from) }
     {
         let mut found = Items::new(self.alloc);
@@ -147,7 +204,7 @@ impl<'t, R: Reader> Parser<'t, R> {
         depth: Depth,
         place: usize,
     ) -> Result<(Option<T::Tree>, usize), Stop>
-        requires { R.ready self.now.reader depth.room }
+        requires { depth.room ≤ R.room self.now.reader }
         ensures { Gives (at (option_map T.view)) result (spec.maybe self.now.tokens.now (R.leaves self.now.reader) depth T.sort place) }
     {
         if T::begins(self.tokens, place) {
@@ -172,7 +229,7 @@ pub fn with_first<T: Drop>(alloc: Global, first: T, more: Items<T>) -> Result<It
 /// Whether a token of this kind stands there.
 #[tactic(auto, unfolding(stan_model_statements::specs::Kinds::same_kind))]
 pub fn stands(tokens: &[Token], kind: TokenKind, place: usize) -> bool
-    ensures { result ≡ kinds.same_kind (strata.kind_at tokens.now place) kind }
+    ensures { result ≡ same_kind (strata.kind_at tokens.now place) kind }
 {
     kind_at(tokens, place) == kind
 }
