@@ -1,6 +1,6 @@
 //! How deep productions may nest.
 
-ghost use Rattle.std.specs.Prelude.{◌≡◌, ◌<◌};
+ghost use Rattle.std.specs.Prelude.{◌≡◌, ◌<◌, ◌+◌, IfOk};
 ghost use Rattle.stan_places.specs.Gives.{Gives};
 ghost use Rattle.stan_stmt_parts.specs.Gives as spec;
 
@@ -19,7 +19,8 @@ pub struct Depth {
 /// The depth inside a production that opens so many levels: `Absent` where it would be too deep.
 pub fn enter(depth: Depth, weight: u32) -> Result<Depth, Stop>
     requires { weight < 2 }
-    ensures { Gives (λ x. x) result (spec.enter depth weight) }
+    ensures depth { Gives (λ x. x) result (spec.enter depth weight) }
+    ensures room { IfOk result (λ d. d.room + 1 ≡ depth.room) }
 {
     if depth.room == 0 {
         return Err(Stop::Absent);

@@ -21,7 +21,7 @@ use stan_places::places::{kind_at, next_kind, token_at};
 use stan_places::stop::Stop;
 use stan_stmt_ahead::kinds::is_modifier;
 use stan_stmt_trees::{Stmt, Value};
-use std::alloc::Global;
+use std::alloc::{AllocError, Global};
 
 /// What reads expressions, with the bodies of their closures, and statements that are parts of others.
 pub trait Reader {
@@ -217,7 +217,7 @@ impl<'t, R: Reader> Parser<'t, R> {
 }
 
 /// An item before others.
-pub fn with_first<T: Drop>(alloc: Global, first: T, more: Items<T>) -> Result<Items<T>, Stop>
+pub fn with_first<T: Drop>(alloc: Global, first: T, more: Items<T>) -> Result<Items<T>, AllocError>
     ensures { IfOk result (λ all. all ≡ first ∷ more) }
 {
     let mut all = Items::new(alloc);
