@@ -1,21 +1,11 @@
 -- A folder that is kept step by step is kept.
-use Rattle.std.proofs.Common.{◌∙◌, ℕ, refl, arith}
+use Rattle.std.proofs.Common.{◌∙◌, ℕ, arith}
 use Rattle.stan_outside.specs.Contents.{Contents}
 use Rattle.stan_outside.specs.Outside.{Rose}
 use Rattle.stan_config.specs.Folder.{KeepsTree}
 use Rattle.stan_config.proofs.StopLemmas.{Rose_later}
 
 module _ {T : Type 0} (tells : T → Type 0) (contents : T → Contents) (faults listings : T → ℕ) (never_fails : T → Type 0) where
-  pub keeps_itself : (a : T) → KeepsTree tells contents faults listings never_fails a a
-  keeps_itself a = record {
-    tells_alike = (λ t. t, λ t. t);
-    same_contents = refl;
-    no_fewer_faults = omega arith;
-    same_listings = refl;
-    same_faults = λ _. refl;
-    still_never_fails = λ n. n;
-  }
-
   pub keeps_then : (a b c : T) → KeepsTree tells contents faults listings never_fails a b → KeepsTree tells contents faults listings never_fails b c → KeepsTree tells contents faults listings never_fails a c
   keeps_then a b c p q = record {
     tells_alike = (λ t. q.tells_alike.0 (p.tells_alike.0 t), λ t. p.tells_alike.1 (q.tells_alike.1 t));

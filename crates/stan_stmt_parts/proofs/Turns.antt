@@ -20,10 +20,6 @@ picks : (o : Option Rule) → is_some o ≡ true → (r : Rule) × (o ≡ Some r
 picks None h = absurd cc
 picks (Some r) h = (r, refl)
 
-picks_none : (o : Option Rule) → is_some o ≡ false → o ≡ None
-picks_none None h = refl
-picks_none (Some r) h = absurd cc
-
 module _ (ts : List Token) (l : Leaves) (d : Depth) (s : Sort) where
   abbrev pub Next : ℕ → Option Rule
   Next at = pick_at ts (behind ts d.levels) s at
@@ -47,9 +43,6 @@ module _ (ts : List Token) (l : Leaves) (d : Depth) (s : Sort) where
   unfolding every all
   first_turn n at e = rw e refl
 
-  pub turn_ends : (n i : ℕ) (found : List Piece) (at : ℕ) (total : Read (List Piece)) → i < n → Turns (n - i) found at ≡ total → is_some (Next at) ≡ false → total ≡ Some (found, at)
-  turn_ends n i found at total lt so_far h = sym so_far ∙ unrolled n i found at lt ∙ rw (picks_none (Next at) h) refl
-
   pub turn_takes : (n i : ℕ) (found : List Piece) (at : ℕ) (total : Read (List Piece)) (p : Piece) (to : ℕ) → i < n → Turns (n - i) found at ≡ total → is_some (Next at) ≡ true
       → part ts l d s at ≡ Some (p, to) → Turns (n - (i + 1)) (found ++ p ∷ []) to ≡ total
   unfolding part one
@@ -65,6 +58,3 @@ module _ (ts : List Token) (l : Leaves) (d : Depth) (s : Sort) where
       let r = picks (Next at) some in
       let read = rw r.1 at h in
       sym so_far ∙ unrolled n i found at lt ∙ rw r.1 (rw read refl)
-
-  pub turns_out : (n i : ℕ) (found : List Piece) (at : ℕ) (total : Read (List Piece)) → n ≤ i → Turns (n - i) found at ≡ total → total ≡ None
-  turns_out n i found at total le so_far = let k : n - i ≡ 0 = omega arith in sym so_far ∙ rw k refl
