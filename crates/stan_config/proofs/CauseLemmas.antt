@@ -1,18 +1,18 @@
 -- What a file and its includes mean, and why they are refused, from what is told of their parts.
 use Rattle.std.proofs.Common.{◌≡◌, ◌∙◌, ℕ, suc, Bool, true, false, List, [], ◌∷◌, ◌++◌, Result, Ok, Err, sym, ap, subst}
-use Rattle.std.specs.Prelude.{IfOk, IfErr, codes}
+use Rattle.std.specs.Prelude.{IfOk, IfErr}
 use Rattle.std.specs.List.{list_any}
 use Rattle.stan_outside.specs.Contents.{Contents}
 use Rattle.stan_config_said.specs.declared.content.Said.{Said as CodeSaid}
 use Rattle.stan_config_said.specs.Views.{said_view}
 use Rattle.stan_model_config.specs.Faults.{is_among}
 use Rattle.stan_model_config.specs.Said.{Said, Content}
-use Rattle.stan_model_config.specs.Files.{Neon, Stop, BadConfig, Found, then_ok, content_at, found_at, each_include, found_beside, found_over, alone, begun, over, beside}
+use Rattle.stan_model_config.specs.Files.{Neon, Stop, Found, then_ok, content_at, found_at, each_include, found_beside, found_over, alone, begun, over, beside}
 use Rattle.stan_config.specs.declared.stop.ConfigStop.{ConfigStop}
 use Rattle.stan_config.specs.Neon.{IsNeon, IsMeant}
-use Rattle.stan_config.specs.Stops.{IsCause}
+use Rattle.stan_config.specs.Stops.{IsCause, IsAtIncludes}
 use Rattle.stan_config.specs.Walk.{file_means, includes_mean, found_nothing}
-use Rattle.stan_config.proofs.StopLemmas.{cause_after}
+use Rattle.stan_config.proofs.StopLemmas.{cause_after, cause_at_includes}
 use Rattle.stan_config.proofs.WalkLemmas.{found_err, found_alone, found_with, refused_includes, good_includes, read_before, read_now}
 
 module _ (contents : Contents) (is_listed : List ℕ → Bool) (left : ℕ) (chain read : List (List ℕ)) (file : List ℕ) (tells rose : Type 0) where
@@ -38,11 +38,10 @@ module _ (contents : Contents) (is_listed : List ℕ → Bool) (left : ℕ) (cha
 
     module _ (less : ℕ) (is_more : left ≡ suc less) (longer : List (List ℕ)) (is_longer : longer ≡ chain ++ file ∷ []) where
       -- one of its includes is on the chain
-      pub leads_back : list_any (λ include. is_among longer include) content.includes ≡ true → (path key : List ℕ) → path ≡ file → key ≡ codes "includes" → tells → IsMeant (file_means contents is_listed left chain read file) (Err (BadConfig path key))
-      leads_back back path key e f told neon is =
-          found_with (content_at neon contents is_listed) left less chain read file content is_more (by_file told neon is)
-          ∙ refused_includes (found_at (content_at neon contents is_listed) less (chain ++ file ∷ [])) (chain ++ file ∷ []) read file content (subst (λ l. list_any (λ include. is_among l include) content.includes ≡ true) is_longer back)
-          ∙ (λ i. Err (BadConfig (sym e i) (sym f i)))
+      pub leads_back : list_any (λ include. is_among longer include) content.includes ≡ true → (stop : ConfigStop) → IsAtIncludes file stop → IsCause tells rose (file_means contents is_listed left chain read file) stop
+      leads_back back = cause_at_includes tells rose (file_means contents is_listed left chain read file) file
+          (λ told neon is. found_with (content_at neon contents is_listed) left less chain read file content is_more (by_file told neon is)
+          ∙ refused_includes (found_at (content_at neon contents is_listed) less (chain ++ file ∷ [])) (chain ++ file ∷ []) read file content (subst (λ l. list_any (λ include. is_among l include) content.includes ≡ true) is_longer back))
 
       module _ (none : list_any (λ include. is_among longer include) content.includes ≡ false) (after : List (List ℕ)) (is_after : after ≡ begun read file) (mid : Contents) (same : mid ≡ contents) (includes : List (List ℕ)) (are : includes ≡ content.includes) where
         opened : (answer : Result Found Stop) (neon : Neon) → IsNeon neon → tells → includes_mean mid is_listed less longer (found_nothing after) includes neon ≡ answer

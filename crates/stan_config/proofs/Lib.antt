@@ -3,7 +3,10 @@ pub mod FileLemmas
 pub mod NeonLemmas
 pub mod StopLemmas
 pub mod WalkLemmas
+pub mod ReadLemmas
+pub mod ReadSteps
 pub mod FolderLemmas
 pub mod ProjectLemmas
+pub mod OnceLemmas
 pub mod LawLemmas
 pub mod ListLemmas

@@ -1,9 +1,12 @@
 -- Searches through a view of the items, and items that are left.
-use Rattle.std.proofs.Common.{◌≡◌, ◌∙◌, ◌<◌, ◌≤◌, ◌+◌, ℕ, Bool, List, [], ◌∷◌, ◌++◌, get_or, drop, length, map, string_bytes, refl, sym, ap}
+use Rattle.std.proofs.Common.{◌≡◌, ◌∙◌, ◌<◌, ◌≤◌, ◌+◌, ℕ, Bool, false, if◌then◌else◌, List, [], ◌∷◌, ◌++◌, get_or, drop, length, map, string_bytes, refl, sym, ap}
 use Rattle.std.specs.Prelude.{◌||◌, String}
 use Rattle.std.specs.declared.alloc.Global.{Global}
 use Rattle.std.specs.List.{list_any}
+use Rattle.std.specs.Str.{bytes_eq}
 use Rattle.std.proofs.lemmas.List.{drop_more, drop_all, map_push}
+use Rattle.std.proofs.lemmas.Bool.{cond-false}
+use Rattle.std.specs.Cmp.Lexicographic.{nat_list_eq_equiv}
 use Rattle.stan_model_config.specs.Faults.{is_among}
 
 pub list_any-map : {X Y : Type 0} (test : Y → Bool) (f : X → Y) (xs : List X) → list_any test (map f xs) ≡ list_any (λ x. test (f x)) xs
@@ -21,10 +24,19 @@ next_item items at item text lt is e = ap (map string_bytes) (drop_more items at
 pub no_item : (items : List (String Global)) (at : ℕ) → length items ≤ at → map string_bytes (drop at items) ≡ []
 no_item items at le = ap (map string_bytes) (drop_all at items le)
 
--- an item more
-pub one_more : (items after : List (String Global)) (item : String Global) (text : List ℕ) → after ≡ items ++ item ∷ [] → string_bytes item ≡ text → map string_bytes after ≡ map string_bytes items ++ text ∷ []
-one_more items after item text is e = ap (map string_bytes) is ∙ map_push string_bytes items item ∙ ap (λ t. map string_bytes items ++ t ∷ []) e
+-- a search that was made for the same text
+pub among : (value found : Bool) (read : List (List ℕ)) (looked text other : List ℕ) → found ≡ is_among read looked → looked ≡ text → other ≡ text → found ≡ value → is_among read other ≡ value
+among value found read looked text other e l o v = ap (is_among read) (o ∙ sym l) ∙ sym e ∙ v
 
--- a search that was made for the same text among the same texts
-pub among : (value found : Bool) (items shown : List (String Global)) (looked text other : List ℕ) → found ≡ is_among (map string_bytes shown) looked → shown ≡ items → looked ≡ text → other ≡ text → found ≡ value → is_among (map string_bytes items) other ≡ value
-among value found items shown looked text other e s l o v = (λ i. is_among (map string_bytes (sym s i)) ((o ∙ sym l) i)) ∙ sym e ∙ v
+-- A name is found among names whichever way it is compared with them.
+pub among_names : (names : List (String Global)) (file : List ℕ) → list_any (λ name. bytes_eq file (string_bytes name)) names ≡ is_among (map string_bytes names) file
+among_names [] file = refl
+among_names (name ∷ names) file = λ i. nat_list_eq_equiv.symm file (string_bytes name) i || among_names names file i
+
+-- a name that is new among others
+pub name_added : (names after : List (String Global)) (name : String Global) (file : List ℕ) → after ≡ (if list_any (λ other. bytes_eq (string_bytes name) (string_bytes other)) names then names else names ++ name ∷ []) → string_bytes name ≡ file
+    → is_among (map string_bytes names) file ≡ false → map string_bytes after ≡ map string_bytes names ++ file ∷ []
+name_added names after name file is e none =
+    let new : list_any (λ other. bytes_eq (string_bytes name) (string_bytes other)) names ≡ false = among_names names (string_bytes name) ∙ ap (is_among (map string_bytes names)) e ∙ none in
+    ap (map string_bytes) (is ∙ cond-false (list_any (λ other. bytes_eq (string_bytes name) (string_bytes other)) names) _ _ new)
+    ∙ map_push string_bytes names name ∙ ap (λ t. map string_bytes names ++ t ∷ []) e

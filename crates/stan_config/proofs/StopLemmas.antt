@@ -1,10 +1,11 @@
 -- A stop of one step is a stop of the steps that begin with it.
-use Rattle.std.proofs.Common.{◌≡◌, ℕ, ◌≤◌, Result, Err, inl, inr, arith}
-use Rattle.stan_model_config.specs.Files.{Neon, Stop}
+use Rattle.std.proofs.Common.{◌≡◌, ◌∙◌, ℕ, ◌≤◌, List, Result, Err, inl, inr, sym, arith}
+use Rattle.std.specs.Prelude.{codes}
+use Rattle.stan_model_config.specs.Files.{Neon, Stop, BadConfig}
 use Rattle.stan_config.specs.declared.stop.ConfigStop.{ConfigStop}
 use Rattle.stan_config.specs.declared.stop.ConfigStop.TheVariants as stops
 use Rattle.stan_config.specs.Neon.{IsNeon}
-use Rattle.stan_config.specs.Stops.{IsCause}
+use Rattle.stan_config.specs.Stops.{IsCause, IsAtIncludes}
 use Rattle.stan_outside.specs.Outside.{Rose}
 
 -- Where each stop of what is meant first is one of what is meant in all.
@@ -21,3 +22,13 @@ cause_after tells_first rose_first tells rose first whole told rises then stops.
 pub Rose_later : (a b c : ℕ) → a ≤ b → Rose b c → Rose a c
 Rose_later a b c le (inl lt) = inl (omega arith)
 Rose_later a b c le (inr e) = inr e
+
+-- a file that is refused at its includes, where it is meant to be
+pub cause_at_includes : {A : Type 0} (tells rose : Type 0) (means : Neon → Result A Stop) (file : List ℕ) → (tells → (neon : Neon) → IsNeon neon → means neon ≡ Err (BadConfig file (codes "includes")))
+    → (stop : ConfigStop) → IsAtIncludes file stop → IsCause tells rose means stop
+cause_at_includes tells rose means file meant (stops.Missing path) at = absurd at
+cause_at_includes tells rose means file meant (stops.BadNeon path line) at = absurd at
+cause_at_includes tells rose means file meant (stops.BadConfig path key) at = λ t neon is. meant t neon is ∙ (λ i. Err (BadConfig (sym at.0 i) (sym at.1 i)))
+cause_at_includes tells rose means file meant stops.NoPaths at = absurd at
+cause_at_includes tells rose means file meant stops.Tree at = absurd at
+cause_at_includes tells rose means file meant stops.OutOfMemory at = absurd at

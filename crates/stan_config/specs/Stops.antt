@@ -1,5 +1,5 @@
 -- The causes of stops.
-use Rattle.std.specs.Prelude.{Result, Err, string_bytes}
+use Rattle.std.specs.Prelude.{◌≡◌, ℕ, List, Result, Err, codes, string_bytes}
 use Rattle.stan_model_config.specs.Files.{Neon, Stop, Missing, BadNeon, BadConfig, NoPaths}
 use Rattle.stan_config.specs.declared.stop.ConfigStop.{ConfigStop}
 use Rattle.stan_config.specs.declared.stop.ConfigStop.TheVariants as stops
@@ -13,3 +13,12 @@ IsCause tells rose means (stops.BadConfig path key) = tells → IsMeant means (E
 IsCause tells rose means stops.NoPaths = tells → IsMeant means (Err NoPaths)
 IsCause tells rose means stops.Tree = rose
 IsCause tells rose means stops.OutOfMemory = Unit {0}
+
+-- The refusal of a file at its includes.
+abbrev pub IsAtIncludes : List ℕ → ConfigStop → Type 0
+IsAtIncludes file (stops.Missing path) = ⊥
+IsAtIncludes file (stops.BadNeon path line) = ⊥
+IsAtIncludes file (stops.BadConfig path key) = (string_bytes path ≡ file) × (string_bytes key ≡ codes "includes")
+IsAtIncludes file stops.NoPaths = ⊥
+IsAtIncludes file stops.Tree = ⊥
+IsAtIncludes file stops.OutOfMemory = ⊥

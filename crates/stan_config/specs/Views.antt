@@ -1,9 +1,9 @@
 -- What words ask for and what a configuration says.
-use Rattle.std.specs.Prelude.{map, option_map, string_bytes, Vec, String}
-use Rattle.std.specs.declared.alloc.Global.{Global}
+use Rattle.std.specs.Prelude.{ℕ, List, map, option_map, string_bytes}
 use Rattle.stan_settings.specs.declared.Config.{Config}
 use Rattle.stan_settings.specs.declared.Words.{Words}
 use Rattle.stan_config_said.specs.declared.content.Said.{Said}
+use Rattle.stan_config.specs.declared.read_files.ReadFiles.{ReadFiles}
 use Rattle.stan_config_said.specs.Views.{entry_view, said_view}
 use Rattle.stan_model_config.specs.Files as model
 
@@ -21,6 +21,10 @@ config_view config = record {
   report = config.report_unmatched;
 }
 
+-- the paths of the files that were read, in their order
+abbrev pub files_view : ReadFiles → List (List ℕ)
+files_view files = map string_bytes files.names.keys
+
 -- what was said, and which files were read
-abbrev pub found_view : Vec (String Global) Global → Said → model.Found
-found_view read said = record { said = said_view said; read = map string_bytes read.items }
+abbrev pub found_view : ReadFiles → Said → model.Found
+found_view files said = record { said = said_view said; read = files_view files }

@@ -1,14 +1,15 @@
 //! One file is read and judged.
 
-ghost use Rattle.std.specs.Prelude.{◌≡◌, IfOk, IfErr, Ok, string_bytes};
+ghost use Rattle.std.specs.Prelude.{◌≡◌, ◌≤◌, ℕ, if◌then◌else◌, IfOk, IfErr, Ok, string_bytes};
 ghost use Rattle.stan_config.specs.Neon.{IsMeant};
 ghost use Rattle.stan_config.specs.Stops.{IsCause};
 ghost use Rattle.stan_config.specs.Folder.{AreHeld, KeepsTree};
+ghost use Rattle.stan_config.specs.Reads.{RoseAtMost};
 ghost use Rattle.stan_config_paths.specs.TextSet.{has};
 ghost use Rattle.stan_config_said.specs.Views.{content_view};
 ghost use Rattle.stan_model_config.specs.Faults as faults;
 ghost use Rattle.stan_model_config.specs.Files as model;
-ghost use Rattle.stan_outside.specs.Outside.{Rose};
+ghost use Rattle.stan_outside.specs.Outside.{Rose, RoseBy};
 
 use crate::ConfigStop;
 use stan_config_keys::file_fault;
@@ -69,6 +70,8 @@ pub(crate) fn read_file<T: Tree>(
     requires { T.tells tree.old → AreHeld (T.contents tree.old) (has listed.now) }
     ensures content { IfOk result (λ content. T.tells tree.old → IsMeant (λ neon. model.content_at neon (T.contents tree.old) (has listed.now) file.now) (Ok (content_view content))) }
     ensures refused { IfErr result (λ stop. IsCause (T.tells tree.old) (Rose (T.faults tree.old) (T.faults tree.new)) (λ neon. model.content_at neon (T.contents tree.old) (has listed.now) file.now) stop) }
+    ensures read_once { IfOk result (λ content. RoseBy 1 (T.reads tree.old) (T.reads tree.new)) }
+    ensures read_at_most_once { RoseAtMost (if has listed.now file.now then 1 else 0) (T.reads tree.old) (T.reads tree.new) }
     ensures keeps { KeepsTree T.tells T.contents T.faults T.listings T.never_fails tree.old tree.new }
 {
     if !listed.has(file) {

@@ -1,6 +1,6 @@
 //! Laws of the definitions: each is the contract of a function that does nothing.
 
-ghost use Rattle.stan_config.specs.Laws.{EveryProjectIsAnswered, OneAnswer, TheRootComesFirst};
+ghost use Rattle.stan_config.specs.Laws.{EveryProjectIsAnswered, NoFileIsReadTwice, OneAnswer, TheRootComesFirst};
 
 /// Every project's configuration means something or is refused, whatever its files hold.
 pub fn every_project_is_answered()
@@ -15,4 +15,9 @@ pub fn one_answer()
 /// What the root is refused for decides.
 pub fn the_root_comes_first()
     ensures { TheRootComesFirst }
+{}
+
+/// No file is read twice for a configuration, whatever its files include.
+pub fn no_file_is_read_twice()
+    ensures { NoFileIsReadTwice }
 {}

@@ -5,6 +5,7 @@ mod file;
 mod join;
 pub mod laws;
 mod project;
+mod read_files;
 mod stop;
 mod walk;
 

@@ -1,24 +1,26 @@
 //! The configuration of a project.
 
-ghost use Rattle.std.specs.Prelude.{◌≡◌, ◌++◌, ℕ, List, [], ◌∷◌, IfOk, IfErr, Ok, map, string_bytes, option_map, unwrap_or, true};
-ghost use Rattle.stan_config.specs.Neon.{IsMeant};
+ghost use Rattle.std.specs.Prelude.{◌≡◌, ◌≤◌, ◌++◌, ℕ, List, [], ◌∷◌, IfOk, IfErr, Ok, length, map, string_bytes, option_map, unwrap_or, true};
+ghost use Rattle.stan_config.specs.Neon.{IsNeon, IsMeant};
 ghost use Rattle.stan_config.specs.Stops.{IsCause};
 ghost use Rattle.stan_config.specs.Views.{asked, config_view};
 ghost use Rattle.stan_config.specs.Folder.{AreHeld, KeepsTree};
+ghost use Rattle.stan_config.specs.Reads.{read_from, files_read, RoseAtMost};
 ghost use Rattle.stan_config_paths.specs.TextSet.{has};
 ghost use Rattle.stan_config_said.specs.Views.{said_view};
 ghost use Rattle.stan_model_config.specs.Faults.{is_among};
 ghost use Rattle.stan_paths.specs.Paths.{normal_path};
 ghost use Rattle.stan_model_config.specs.Files as model;
-ghost use Rattle.stan_outside.specs.Outside.{Rose};
+ghost use Rattle.stan_outside.specs.Outside.{Rose, RoseBy};
 
 use crate::ConfigStop;
+use crate::read_files::ReadFiles;
 use crate::walk::found_at;
 use stan_base::OutOfMemory;
 use stan_config_paths::TextSet;
 use stan_config_said::Said;
 use stan_outside::Tree;
-use stan_paths::normal_path;
+use stan_paths::{normal_path, normal_paths};
 use stan_settings::{Config, Words};
 use std::alloc::Global;
 
@@ -62,16 +64,6 @@ fn root_of(
         Some(path) => Ok(Some(normal_path(alloc, path.as_str())?)),
         None => default_root(alloc, listed),
     }
-}
-
-fn normal_paths(alloc: Global, paths: &[String]) -> Result<Vec<String>, OutOfMemory>
-    ensures { IfOk result (λ normal. map string_bytes normal.items ≡ map normal_path (map string_bytes paths.now)) }
-{
-    let mut normal = Vec::new(alloc);
-    for path in paths {
-        normal.push(normal_path(alloc, path.as_str())?)?;
-    }
-    Ok(normal)
 }
 
 // The words' paths take the place of those of the files.
@@ -151,11 +143,13 @@ fn said_from<T: Tree>(
     requires { T.tells tree.old → AreHeld (T.contents tree.old) (has listed.now) }
     ensures said { IfOk result (λ said. T.tells tree.old → IsMeant (λ neon. model.said_from (model.content_at neon (T.contents tree.old) (has listed.now)) (option_map string_bytes root)) (Ok (said_view said))) }
     ensures refused { IfErr result (λ stop. IsCause (T.tells tree.old) (Rose (T.faults tree.old) (T.faults tree.new)) (λ neon. model.said_from (model.content_at neon (T.contents tree.old) (has listed.now)) (option_map string_bytes root)) stop) }
+    ensures read_once { IfOk result (λ said. T.tells tree.old → (neon : model.Neon) → IsNeon neon → RoseBy (length (read_from (model.content_at neon (T.contents tree.old) (has listed.now)) (option_map string_bytes root))) (T.reads tree.old) (T.reads tree.new)) }
+    ensures read_at_most_once { T.tells tree.old → (neon : model.Neon) → IsNeon neon → RoseAtMost (length (read_from (model.content_at neon (T.contents tree.old) (has listed.now)) (option_map string_bytes root))) (T.reads tree.old) (T.reads tree.new) }
     ensures keeps { KeepsTree T.tells T.contents T.faults T.listings T.never_fails tree.old tree.new }
 {
     match root {
         Some(file) => {
-            let mut read = Vec::new(alloc);
+            let mut read = ReadFiles::new(alloc);
             found_at(
                 alloc,
                 tree,
@@ -186,6 +180,10 @@ pub fn load<T: Tree>(
     // What the configuration means, or why it is refused.
     ensures config { IfOk result (λ config. T.tells tree.old → IsMeant (λ neon. model.configuration neon (T.contents tree.old) (map string_bytes listed.now) (asked words.now)) (Ok (config_view config))) }
     ensures refused { IfErr result (λ stop. IsCause (T.tells tree.old) (Rose (T.faults tree.old) (T.faults tree.new)) (λ neon. model.configuration neon (T.contents tree.old) (map string_bytes listed.now) (asked words.now)) stop) }
+
+    // Each file that the configuration is made of is read once, and where it is refused none is read twice and none behind the one at which it is.
+    ensures read_once { IfOk result (λ config. T.tells tree.old → (neon : model.Neon) → IsNeon neon → RoseBy (length (files_read neon (T.contents tree.old) (map string_bytes listed.now) (asked words.now))) (T.reads tree.old) (T.reads tree.new)) }
+    ensures read_at_most_once { T.tells tree.old → (neon : model.Neon) → IsNeon neon → RoseAtMost (length (files_read neon (T.contents tree.old) (map string_bytes listed.now) (asked words.now))) (T.reads tree.old) (T.reads tree.new) }
 
     // The folder isn't listed.
     ensures keeps { KeepsTree T.tells T.contents T.faults T.listings T.never_fails tree.old tree.new }

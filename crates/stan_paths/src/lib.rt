@@ -4,5 +4,5 @@
 mod normal;
 mod order;
 
-pub use normal::{is_proper_part, normal_path};
+pub use normal::{is_proper_part, normal_path, normal_paths};
 pub use order::put_in_order;

@@ -30,3 +30,14 @@ pub fn normal_path(alloc: Global, path: &str) -> Result<String, OutOfMemory>
     let parts = proper_parts(alloc, path)?;
     Ok(parts.as_slice().join(alloc, "/")?)
 }
+
+/// Paths in normal form, each at its place.
+pub fn normal_paths(alloc: Global, paths: &[String]) -> Result<Vec<String>, OutOfMemory>
+    ensures { IfOk result (λ normal. map string_bytes normal.items ≡ map normal_path (map string_bytes paths.now)) }
+{
+    let mut normal = Vec::new(alloc);
+    for path in paths {
+        normal.push(normal_path(alloc, path.as_str())?)?;
+    }
+    Ok(normal)
+}

@@ -12,3 +12,7 @@ SelectedInAnyOrder =
     → IsSelection config listed files
     → IsSelection config others other_files
     → files ≡ other_files
+
+-- Every listing has a selection under every configuration, and only one.
+abbrev pub EveryListingHasOneSelection : Type 0
+EveryListingHasOneSelection = (config : Config) (listed : List (List ℕ)) → (files : List Chosen) × IsSelection config listed files × ((other : List Chosen) → IsSelection config listed other → other ≡ files)

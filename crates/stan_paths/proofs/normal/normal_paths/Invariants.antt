@@ -1,6 +1,6 @@
 use Rattle.std.proofs.Common.{◌≡◌, map, take, string_bytes}
 use Rattle.stan_paths.specs.Paths.{normal_path}
-use Rattle.stan_config.proofs.project.normal_paths.Given as goal
+use Rattle.stan_paths.proofs.normal.normal_paths.Given as goal
 
 -- the normal forms of the paths so far
 abbrev pub invariant-loop-path : goal.invariant-loop-path
