@@ -1,6 +1,6 @@
 //! The parser: what stands at a place, and parts that may stand or stand behind one another.
 
-ghost use Rattle.std.specs.Prelude.{◌≡◌, ◌<◌, ◌≤◌, ◌+◌, ◌^◌, ◌∷◌, IfOk, Bool, ℕ, List, length, map, option_map};
+ghost use Rattle.std.specs.Prelude.{◌≡◌, ◌<◌, ◌≤◌, ◌+◌, ◌^◌, ◌∷◌, IfOk, Bool, ℕ, List, Some, length, map, option_map, slice_get};
 ghost use Rattle.std.specs.Option.{is_some};
 ghost use Rattle.stan_model_grammar.specs.declared.token.TokenKind.{TokenKind};
 ghost use Rattle.stan_model_grammar.specs.Strata as strata;
@@ -46,6 +46,17 @@ pub trait Reader {
         requires few { length tokens.now < 2 ^ 32 }
         requires room { depth.room ≤ room self.now }
         ensures { Gives (at value_of) result ((leaves self.now).value tokens.now depth.room depth.levels pattern place) };
+
+    /// The kind of the token behind the expression there, which may be a pattern.
+    fn behind(
+        &self,
+        alloc: Global,
+        tokens: &[Token],
+        depth: Depth,
+        place: usize,
+    ) -> Result<TokenKind, Stop>
+        requires few { length tokens.now < 2 ^ 32 }
+        ensures { Gives (λ x. x) result (Some (rules.behind tokens.now depth.levels place)) };
 
     fn statement(
         &self,
@@ -114,6 +125,22 @@ impl<'t, R: Reader> Parser<'t, R> {
         }
     }
 
+    /// The token of this kind with which something begins, and the place behind it.
+    #[tactic(auto, unfolding(stan_stmt_rules::specs::Parse::after, stan_model_statements::specs::Kinds::same_kind))]
+    pub fn keyword(&self, kind: TokenKind, place: usize) -> Result<(Token, usize), Stop>
+        ensures behind { Gives (λ x. x.1) result (rules.after self.now.tokens.now kind place) }
+        ensures token { IfOk result (λ x. slice_get self.now.tokens.now place ≡ Some x.0) }
+    {
+        let Some(token) = token_at(self.tokens, place) else {
+            return Err(Stop::Absent);
+        };
+        if token.kind == kind {
+            Ok((token, place + 1))
+        } else {
+            Err(Stop::Absent)
+        }
+    }
+
     /// A word of one of these kinds, and the place behind it.
     #[tactic(auto, unfolding(stan_stmt_rules::specs::Parse::word_at))]
     pub fn word<W: Words>(&self, place: usize) -> Result<(Token, usize), Stop>
@@ -169,6 +196,13 @@ impl<'t, R: Reader> Parser<'t, R> {
     {
         self.reader
             .value(self.alloc, self.tokens, depth, pattern, place)
+    }
+
+    /// The kind of the token behind the expression there, which may be a pattern.
+    pub fn behind(&self, depth: Depth, place: usize) -> Result<TokenKind, Stop>
+        ensures { Gives (λ x. x) result (Some (rules.behind self.now.tokens.now depth.levels place)) }
+    {
+        self.reader.behind(self.alloc, self.tokens, depth, place)
     }
 
     /// A statement, as a part of another.
@@ -232,4 +266,15 @@ pub fn stands(tokens: &[Token], kind: TokenKind, place: usize) -> bool
     ensures { result ≡ same_kind (strata.kind_at tokens.now place) kind }
 {
     kind_at(tokens, place) == kind
+}
+
+/// The kind of the token two places on.
+pub fn third_kind(tokens: &[Token], place: usize) -> TokenKind
+    ensures { result ≡ strata.kind_at tokens.now (place + 2) }
+{
+    if place < tokens.len() {
+        next_kind(tokens, place + 1)
+    } else {
+        TokenKind::End
+    }
 }
