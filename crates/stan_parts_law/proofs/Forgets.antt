@@ -8,33 +8,28 @@ use Rattle.stan_model_grammar.specs.Trees.{Tree}
 use Rattle.stan_expr_rules.specs.Parse.{Read, ◌>>=◌}
 use Rattle.stan_model_statements.specs.Symbols.{Sort, One, May, Many, Again, Symbol, Mark, Word, Checked, Expression, Part}
 use Rattle.stan_model_statements.specs.Rules.{Rule, symbols, weight}
-use Rattle.stan_model_statements.specs.Trees.{Value, value}
 use Rattle.stan_model_statements.specs.Forests as forests
 use Rattle.stan_model_statements.specs.Forests.{Forest}
-use Rattle.stan_model_files.specs.Put.{put_value}
 use Rattle.stan_model_files.specs.Shapes.{Shape, nil, mark, word, none, some, forest}
 use Rattle.stan_stmt_rules.specs.Ahead.{pick_at}
 use Rattle.stan_stmt_rules.specs.Parse as plain
 use Rattle.stan_stmt_rules.specs.Parse.{after, word_at, checked_at, choose, most}
-use Rattle.stan_stmt_parts.specs.Parse.{Piece, onto, standing, optional, items, run_by, first_at, pieced, one, may, many, all, run, read}
+use Rattle.stan_stmt_parts.specs.Parse.{Piece, Putting, onto, standing, optional, items, run_by, first_at, pieced, one, may, many, all, run, read}
 use Rattle.stan_stmt_parts.proofs.KindLemmas.{see}
-use Rattle.stan_parts_law.specs.Laws.{tree, bare, Forgets}
+use Rattle.stan_parts_law.specs.Laws.{bare, Forgets, HaveTrees}
 
-bind_ok : {A B : Type 0} (r : Option A) (f : A → Option B) (y : B) → (r >>= f) ≡ Some y → (x : A) × (r ≡ Some x) × (f x ≡ Some y)
+pub bind_ok : {A B : Type 0} (r : Option A) (f : A → Option B) (y : B) → (r >>= f) ≡ Some y → (x : A) × (r ≡ Some x) × (f x ≡ Some y)
 bind_ok (Some x) f y e = (x, refl, e)
 bind_ok None f y e = absurd cc
 
-some_is : {A : Type 0} (x y : A) → (let s : A → Option A = Some in s x ≡ s y) → x ≡ y
+pub some_is : {A : Type 0} (x y : A) → (let s : A → Option A = Some in s x ≡ s y) → x ≡ y
 some_is x y e = cc
 
-value_forest : (v : Value) (f : Shape) → forest (put_value v f) ≡ forests.expr (tree v) (forest f)
-value_forest (value e bs) f = refl
-
-optional_forest : (o : Option Piece) (f : Shape) → forest (optional o f) ≡ plain.optional (option_map bare o) (forest f)
+pub optional_forest : (o : Option Piece) (f : Shape) → forest (optional o f) ≡ plain.optional (option_map bare o) (forest f)
 optional_forest None f = refl
 optional_forest (Some p) f = refl
 
-items_forest : (ps : List Piece) (f : Shape) → forest (items ps f) ≡ plain.items (map bare ps) (forest f)
+pub items_forest : (ps : List Piece) (f : Shape) → forest (items ps f) ≡ plain.items (map bare ps) (forest f)
 items_forest [] f = refl
 items_forest (p ∷ ps) f = ap (forests.some p.0 (forest p.2)) (items_forest ps f)
 
@@ -50,8 +45,8 @@ module _ where
       rw (first x.0 x.1) (rw (later x.0 z.0 z.1)
       (ap (λ (t : Forest × ℕ). let o : Forest × ℕ → Option (Forest × ℕ) = Some in o t) (ap (λ (t : Forest). let o : Forest × ℕ = (t, z.0.1) in o) (sym (same x.0.0 z.0.0)) ∙ ap (λ (t : Shape × ℕ). let o : Forest × ℕ = (forest t.0, t.1) in o) is)))
 
-module _ (ts : List Token) (named : Token → Bool) (value : ℕ → ℕ → Bool → ℕ → Read Value) (expression : ℕ → Bool → ℕ → Read Tree) (behind : ℕ → ℕ → TokenKind)
-    (trees : (room levels : ℕ) (p : Bool) (at : ℕ) → Forgets tree (value room levels p at) (expression levels p at)) where
+module _ (ts : List Token) (named : Token → Bool) (value : ℕ → ℕ → Bool → ℕ → Read Putting) (expression : ℕ → Bool → ℕ → Read Tree) (behind : ℕ → ℕ → TokenKind)
+    (trees : (room levels : ℕ) (p : Bool) (at : ℕ) → HaveTrees (value room levels p at) (expression levels p at)) where
   module _ (below : Rule → ℕ → Read Shape) (plain_below : Rule → ℕ → Read Forest) (forgets : (r : Rule) (at : ℕ) → Forgets forest (below r at) (plain_below r at)) (levels : ℕ) where
     piece_forgets : (r : Rule) (at : ℕ) → Forgets bare (pieced ts named value behind below levels r at) (plain.pieced ts named expression behind plain_below levels r at)
     piece_forgets r at y e =
@@ -91,7 +86,7 @@ module _ (ts : List Token) (named : Token → Bool) (value : ℕ → ℕ → Boo
     unfolding all plain.all
     all_forgets s at y e = many_forgets (length ts + 1) s [] at y e
 
-    run_forgets : (room : ℕ) (xs : List Symbol) (at : ℕ) → Forgets forest (run ts named value behind below levels room xs at) (plain.run ts named expression behind plain_below levels xs at)
+    pub run_forgets : (room : ℕ) (xs : List Symbol) (at : ℕ) → Forgets forest (run ts named value behind below levels room xs at) (plain.run ts named expression behind plain_below levels xs at)
     run_forgets room [] at y e = ap (λ (t : Shape × ℕ). let o : Forest × ℕ → Option (Forest × ℕ) = Some in o (forest t.0, t.1)) (some_is (nil, at) y e)
     run_forgets room (Mark k ∷ xs) at y e =
         let b = bind_ok (after ts k at) (λ b. run ts named value behind below levels room xs b >>= onto mark) y e in
@@ -105,7 +100,13 @@ module _ (ts : List Token) (named : Token → Bool) (value : ℕ → ℕ → Boo
         let b = bind_ok (checked_at ts named c at) (λ t. run ts named value behind below levels room xs (at + 1) >>= onto (word t)) y e in
         let z = bind_ok (run ts named value behind below levels room xs (at + 1)) (onto (word b.0)) y b.2 in
         rw (b.1, run_forgets room xs (at + 1) z.0 z.1) (ap (λ (t : Shape × ℕ). let o : Forest × ℕ → Option (Forest × ℕ) = Some in o (forest t.0, t.1)) (some_is (word b.0 z.0.0, z.0.1) y z.2))
-    run_forgets room (Expression p ∷ xs) at y e = onto_forgets tree (value room levels p at) (expression levels p at) (λ v. run ts named value behind below levels room xs v.1) (λ v. plain.run ts named expression behind plain_below levels xs v.1) put_value forests.expr (trees room levels p at) (λ v. run_forgets room xs v.1) value_forest y e
+    run_forgets room (Expression p ∷ xs) at y e =
+        let x = bind_ok (value room levels p at) (λ v. run ts named value behind below levels room xs v.1 >>= onto v.0) y e in
+        let z = bind_ok (run ts named value behind below levels room xs x.0.1) (onto x.0.0) y x.2 in
+        let is = some_is (x.0.0 z.0.0, z.0.1) y z.2 in
+        let tree = trees room levels p at x.0 x.1 in
+        rw tree.1 (rw (run_forgets room xs x.0.1 z.0 z.1)
+        (ap (λ (t : Forest × ℕ). let o : Forest × ℕ → Option (Forest × ℕ) = Some in o t) (ap (λ (t : Forest). let o : Forest × ℕ = (t, z.0.1) in o) (sym (tree.2 z.0.0)) ∙ ap (λ (t : Shape × ℕ). let o : Forest × ℕ = (forest t.0, t.1) in o) is)))
     run_forgets room (Part One s ∷ xs) at y e = onto_forgets bare (one ts named value behind below levels s at) (plain.one ts named expression behind plain_below levels s at) (λ v. run ts named value behind below levels room xs v.1) (λ v. plain.run ts named expression behind plain_below levels xs v.1) standing plain.standing (one_forgets s at) (λ v. run_forgets room xs v.1) (λ p f. refl) y e
     run_forgets room (Part May s ∷ xs) at y e = onto_forgets (option_map bare) (may ts named value behind below levels s at) (plain.may ts named expression behind plain_below levels s at) (λ v. run ts named value behind below levels room xs v.1) (λ v. plain.run ts named expression behind plain_below levels xs v.1) optional plain.optional (may_forgets s at) (λ v. run_forgets room xs v.1) optional_forest y e
     run_forgets room (Part Many s ∷ xs) at y e = onto_forgets (map bare) (all ts named value behind below levels s at) (plain.all ts named expression behind plain_below levels s at) (λ v. run ts named value behind below levels room xs v.1) (λ v. plain.run ts named expression behind plain_below levels xs v.1) items plain.items (all_forgets s at) (λ v. run_forgets room xs v.1) items_forest y e

@@ -35,6 +35,11 @@ part_behind r p = (r, None, mark (standing p nil))
 abbrev pub names_of : List Token → Piece
 names_of ts = (r.class_names, None, first_words r.further_name ts nil)
 
+-- all of the names, if there are any
+abbrev pub all_names : Option (Token × List Token) → List Token
+all_names None = []
+all_names (Some x) = x.0 ∷ x.1
+
 unfoldable pub declared_of : Variable → Piece
 declared_of x = (r.declared, None, word (variable_of x).name (put_default (variable_of x).value nil))
 

@@ -1,71 +1,51 @@
 //! Variables and constants, with their values.
 
-ghost use Rattle.stan_model_statements.specs.Rules as rules;
+ghost use Rattle.std.specs.Prelude.{refl};
+ghost use Rattle.stan_model_grammar.specs.declared.token.TokenKind.TheVariants as kinds;
 ghost use Rattle.stan_model_statements.specs.Symbols as sorts;
 ghost use Rattle.stan_stmt_items.specs.Views as views;
 
+use crate::forms::{
+    MarkedPart, MarkedPartForm, MarkedValue, MarkedValueForm, NamedValue, NamedValueForm,
+};
 use stan_model_grammar::token::{Token, TokenKind};
-use stan_places::places::kind_at;
 use stan_places::stop::Stop;
-use stan_stmt_ahead::kinds::is_member_name;
 use stan_stmt_parts::depth::{Depth, enter};
 use stan_stmt_parts::parser::{Parser, Part, Reader, stands};
 use stan_stmt_parts::words::{Identifiers, MemberNames, Variables};
-use stan_stmt_trees::{Constant as ConstantTree, Value, Variable};
+use stan_stmt_trees::Variable;
 
 /// A further value of a list.
-pub struct FurtherExpression;
+pub type FurtherExpression = MarkedValue<FurtherExpressionForm>;
 
-impl Part for FurtherExpression {
-    type Tree = Value;
+pub struct FurtherExpressionForm;
 
+impl MarkedValueForm for FurtherExpressionForm {
     ghost sort = { sorts.FurtherExpression };
 
-    ghost view = { views.value_behind rules.further_expression };
+    ghost mark = { kinds.Comma };
 
-    #[tactic(auto, unfolding(stan_stmt_rules::specs::Ahead::pick_at, stan_model_statements::specs::Kinds::same_kind))]
-    fn begins(tokens: &[Token], place: usize) -> bool {
-        stands(tokens, TokenKind::Comma, place)
-    }
+    ghost form = { record { picked = λ a b c d. refl; made_of = refl; weighs = refl; firstless = refl } };
 
-    #[tactic(auto, using(stan_stmt_parts::proofs::Singles::part_enters), unfolding(stan_stmt_parts::specs::Gives::entered, stan_stmt_parts::specs::Gives::inside, stan_stmt_parts::specs::Parse::first_at, stan_model_statements::specs::Kinds::same_kind))]
-    fn read<R: Reader>(
-        parser: &Parser<'_, R>,
-        depth: Depth,
-        place: usize,
-    ) -> Result<(Value, usize), Stop> {
-        let depth = enter(depth, 0)?;
-        let to = parser.expect(TokenKind::Comma, place)?;
-        let (value, to) = parser.value(depth, false, to)?;
-        Ok((value, to))
+    fn mark() -> TokenKind {
+        TokenKind::Comma
     }
 }
 
 /// The value behind a `=`.
-pub struct Default;
+pub type Default = MarkedValue<DefaultForm>;
 
-impl Part for Default {
-    type Tree = Value;
+pub struct DefaultForm;
 
+impl MarkedValueForm for DefaultForm {
     ghost sort = { sorts.Default };
 
-    ghost view = { views.value_behind rules.default };
+    ghost mark = { kinds.Assign };
 
-    #[tactic(auto, unfolding(stan_stmt_rules::specs::Ahead::pick_at, stan_model_statements::specs::Kinds::same_kind))]
-    fn begins(tokens: &[Token], place: usize) -> bool {
-        stands(tokens, TokenKind::Assign, place)
-    }
+    ghost form = { record { picked = λ a b c d. refl; made_of = refl; weighs = refl; firstless = refl } };
 
-    #[tactic(auto, using(stan_stmt_parts::proofs::Singles::part_enters), unfolding(stan_stmt_parts::specs::Gives::entered, stan_stmt_parts::specs::Gives::inside, stan_stmt_parts::specs::Parse::first_at, stan_model_statements::specs::Kinds::same_kind))]
-    fn read<R: Reader>(
-        parser: &Parser<'_, R>,
-        depth: Depth,
-        place: usize,
-    ) -> Result<(Value, usize), Stop> {
-        let depth = enter(depth, 0)?;
-        let to = parser.expect(TokenKind::Assign, place)?;
-        let (value, to) = parser.value(depth, false, to)?;
-        Ok((value, to))
+    fn mark() -> TokenKind {
+        TokenKind::Assign
     }
 }
 
@@ -104,143 +84,84 @@ impl Part for Declared {
 }
 
 /// A further variable.
-pub struct FurtherDeclared;
+pub type FurtherDeclared = MarkedPart<FurtherDeclaredForm>;
 
-impl Part for FurtherDeclared {
-    type Tree = Variable;
+pub struct FurtherDeclaredForm;
+
+impl MarkedPartForm for FurtherDeclaredForm {
+    type Inner = Declared;
 
     ghost sort = { sorts.FurtherDeclared };
 
-    ghost view = { λ x. views.part_behind rules.further_declared (views.declared_of x) };
+    ghost mark = { kinds.Comma };
 
-    #[tactic(auto, unfolding(stan_stmt_rules::specs::Ahead::pick_at, stan_model_statements::specs::Kinds::same_kind))]
-    fn begins(tokens: &[Token], place: usize) -> bool {
-        stands(tokens, TokenKind::Comma, place)
-    }
+    ghost form = { record { picked = λ a b c d. refl; made_of = refl; weighs = refl; firstless = refl } };
 
-    #[tactic(auto, using(stan_stmt_parts::proofs::Singles::part_enters), unfolding(stan_stmt_parts::specs::Gives::entered, stan_stmt_parts::specs::Gives::inside, stan_stmt_parts::specs::Parse::first_at, stan_model_statements::specs::Kinds::same_kind))]
-    fn read<R: Reader>(
-        parser: &Parser<'_, R>,
-        depth: Depth,
-        place: usize,
-    ) -> Result<(Variable, usize), Stop> {
-        let depth = enter(depth, 0)?;
-        let to = parser.expect(TokenKind::Comma, place)?;
-        let (variable, to) = Declared::read(parser, depth, to)?;
-        Ok((variable, to))
+    fn mark() -> TokenKind {
+        TokenKind::Comma
     }
 }
 
 /// A constant, with its value.
-pub struct Constant;
+pub type Constant = NamedValue<ConstantForm>;
 
-impl Part for Constant {
-    type Tree = ConstantTree;
+pub struct ConstantForm;
+
+impl NamedValueForm for ConstantForm {
+    type Words = Identifiers;
 
     ghost sort = { sorts.Constant };
 
-    ghost view = { views.constant_piece rules.constant };
-
-    #[tactic(auto, unfolding(stan_stmt_rules::specs::Ahead::pick_at, stan_model_statements::specs::Kinds::same_kind))]
-    fn begins(tokens: &[Token], place: usize) -> bool {
-        stands(tokens, TokenKind::Identifier, place)
-    }
-
-    #[tactic(auto, using(stan_stmt_parts::proofs::Singles::part_enters, crate::proofs::Layers::made), unfolding(stan_stmt_parts::specs::Gives::entered, stan_stmt_parts::specs::Gives::inside, stan_stmt_parts::specs::Parse::first_at, stan_model_statements::specs::Kinds::same_kind, crate::specs::Views::constant_piece))]
-    fn read<R: Reader>(
-        parser: &Parser<'_, R>,
-        depth: Depth,
-        place: usize,
-    ) -> Result<(ConstantTree, usize), Stop> {
-        let depth = enter(depth, 0)?;
-        let (name, to) = parser.word::<Identifiers>(place)?;
-        let to = parser.expect(TokenKind::Assign, to)?;
-        let (value, to) = parser.value(depth, false, to)?;
-        Ok((ConstantTree { name, value }, to))
-    }
+    ghost form = { record { picked = λ a b c d. refl; made_of = refl; weighs = refl; firstless = refl } };
 }
 
 /// A further constant.
-pub struct FurtherConstant;
+pub type FurtherConstant = MarkedPart<FurtherConstantForm>;
 
-impl Part for FurtherConstant {
-    type Tree = ConstantTree;
+pub struct FurtherConstantForm;
+
+impl MarkedPartForm for FurtherConstantForm {
+    type Inner = Constant;
 
     ghost sort = { sorts.FurtherConstant };
 
-    ghost view = { λ x. views.part_behind rules.further_constant (views.constant_piece rules.constant x) };
+    ghost mark = { kinds.Comma };
 
-    #[tactic(auto, unfolding(stan_stmt_rules::specs::Ahead::pick_at, stan_model_statements::specs::Kinds::same_kind))]
-    fn begins(tokens: &[Token], place: usize) -> bool {
-        stands(tokens, TokenKind::Comma, place)
-    }
+    ghost form = { record { picked = λ a b c d. refl; made_of = refl; weighs = refl; firstless = refl } };
 
-    #[tactic(auto, using(stan_stmt_parts::proofs::Singles::part_enters), unfolding(stan_stmt_parts::specs::Gives::entered, stan_stmt_parts::specs::Gives::inside, stan_stmt_parts::specs::Parse::first_at, stan_model_statements::specs::Kinds::same_kind))]
-    fn read<R: Reader>(
-        parser: &Parser<'_, R>,
-        depth: Depth,
-        place: usize,
-    ) -> Result<(ConstantTree, usize), Stop> {
-        let depth = enter(depth, 0)?;
-        let to = parser.expect(TokenKind::Comma, place)?;
-        let (constant, to) = Constant::read(parser, depth, to)?;
-        Ok((constant, to))
+    fn mark() -> TokenKind {
+        TokenKind::Comma
     }
 }
 
 /// A constant of a class, with its value.
-pub struct ClassConstant;
+pub type ClassConstant = NamedValue<ClassConstantForm>;
 
-impl Part for ClassConstant {
-    type Tree = ConstantTree;
+pub struct ClassConstantForm;
+
+impl NamedValueForm for ClassConstantForm {
+    type Words = MemberNames;
 
     ghost sort = { sorts.ClassConstant };
 
-    ghost view = { views.constant_piece rules.class_constant };
-
-    #[tactic(auto, unfolding(stan_stmt_rules::specs::Ahead::pick_at, stan_model_statements::specs::Kinds::same_kind))]
-    fn begins(tokens: &[Token], place: usize) -> bool {
-        is_member_name(kind_at(tokens, place))
-    }
-
-    #[tactic(auto, using(stan_stmt_parts::proofs::Singles::part_enters, crate::proofs::Layers::made), unfolding(stan_stmt_parts::specs::Gives::entered, stan_stmt_parts::specs::Gives::inside, stan_stmt_parts::specs::Parse::first_at, stan_model_statements::specs::Kinds::same_kind, crate::specs::Views::constant_piece))]
-    fn read<R: Reader>(
-        parser: &Parser<'_, R>,
-        depth: Depth,
-        place: usize,
-    ) -> Result<(ConstantTree, usize), Stop> {
-        let depth = enter(depth, 0)?;
-        let (name, to) = parser.word::<MemberNames>(place)?;
-        let to = parser.expect(TokenKind::Assign, to)?;
-        let (value, to) = parser.value(depth, false, to)?;
-        Ok((ConstantTree { name, value }, to))
-    }
+    ghost form = { record { picked = λ a b c d. refl; made_of = refl; weighs = refl; firstless = refl } };
 }
 
 /// A further constant of a class.
-pub struct FurtherClassConstant;
+pub type FurtherClassConstant = MarkedPart<FurtherClassConstantForm>;
 
-impl Part for FurtherClassConstant {
-    type Tree = ConstantTree;
+pub struct FurtherClassConstantForm;
+
+impl MarkedPartForm for FurtherClassConstantForm {
+    type Inner = ClassConstant;
 
     ghost sort = { sorts.FurtherClassConstant };
 
-    ghost view = { λ x. views.part_behind rules.further_class_constant (views.constant_piece rules.class_constant x) };
+    ghost mark = { kinds.Comma };
 
-    #[tactic(auto, unfolding(stan_stmt_rules::specs::Ahead::pick_at, stan_model_statements::specs::Kinds::same_kind))]
-    fn begins(tokens: &[Token], place: usize) -> bool {
-        stands(tokens, TokenKind::Comma, place)
-    }
+    ghost form = { record { picked = λ a b c d. refl; made_of = refl; weighs = refl; firstless = refl } };
 
-    #[tactic(auto, using(stan_stmt_parts::proofs::Singles::part_enters), unfolding(stan_stmt_parts::specs::Gives::entered, stan_stmt_parts::specs::Gives::inside, stan_stmt_parts::specs::Parse::first_at, stan_model_statements::specs::Kinds::same_kind))]
-    fn read<R: Reader>(
-        parser: &Parser<'_, R>,
-        depth: Depth,
-        place: usize,
-    ) -> Result<(ConstantTree, usize), Stop> {
-        let depth = enter(depth, 0)?;
-        let to = parser.expect(TokenKind::Comma, place)?;
-        let (constant, to) = ClassConstant::read(parser, depth, to)?;
-        Ok((constant, to))
+    fn mark() -> TokenKind {
+        TokenKind::Comma
     }
 }

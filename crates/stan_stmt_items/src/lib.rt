@@ -2,5 +2,6 @@
 #![tactic(auto)]
 
 pub mod constants;
+pub mod forms;
 pub mod names;
 pub mod words;

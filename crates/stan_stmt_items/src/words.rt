@@ -1,400 +1,238 @@
-//! Parts of one mark or one word.
+//! Parts of one mark or one word, and words behind a mark.
 
-ghost use Rattle.stan_model_statements.specs.Rules as rules;
+ghost use Rattle.std.specs.Prelude.{refl};
+ghost use Rattle.stan_model_grammar.specs.declared.token.TokenKind.TheVariants as kinds;
 ghost use Rattle.stan_model_statements.specs.Symbols as sorts;
-ghost use Rattle.stan_stmt_items.specs.Views as views;
 
-use stan_model_grammar::token::{Token, TokenKind};
-use stan_places::places::kind_at;
-use stan_places::stop::Stop;
-use stan_stmt_ahead::kinds::{is_class_modifier, is_name, is_use_kind, is_visibility};
-use stan_stmt_parts::depth::{Depth, enter};
-use stan_stmt_parts::parser::{Parser, Part, Reader, stands};
+use crate::forms::{MarkForm, MarkedWord, MarkedWordForm, OneMark, OneWord, WordForm};
+use stan_model_grammar::token::TokenKind;
 use stan_stmt_parts::words::{
     ClassModifiers, Identifiers, Integers, Names as NameWords, TypeNames, UseKinds, Variables,
     Visibilities,
 };
 
 /// The `&` before what is passed or given by reference.
-pub struct ByReference;
+pub type ByReference = OneMark<ByReferenceForm>;
 
-impl Part for ByReference {
-    type Tree = ();
+pub struct ByReferenceForm;
 
+impl MarkForm for ByReferenceForm {
     ghost sort = { sorts.ByReference };
 
-    ghost view = { λ _. views.of_mark rules.by_reference };
+    ghost mark = { kinds.Ampersand };
 
-    #[tactic(auto, unfolding(stan_stmt_rules::specs::Ahead::pick_at, stan_model_statements::specs::Kinds::same_kind))]
-    fn begins(tokens: &[Token], place: usize) -> bool {
-        stands(tokens, TokenKind::Ampersand, place)
-    }
+    ghost form = { record { picked = λ a b c d. refl; made_of = refl; weighs = refl; firstless = refl } };
 
-    #[tactic(auto, using(stan_stmt_parts::proofs::Singles::part_enters), unfolding(stan_stmt_parts::specs::Gives::entered, stan_stmt_parts::specs::Gives::inside, stan_stmt_parts::specs::Parse::first_at, stan_model_statements::specs::Kinds::same_kind))]
-    fn read<R: Reader>(
-        parser: &Parser<'_, R>,
-        depth: Depth,
-        place: usize,
-    ) -> Result<((), usize), Stop> {
-        let _depth = enter(depth, 0)?;
-        let to = parser.expect(TokenKind::Ampersand, place)?;
-        Ok(((), to))
+    fn mark() -> TokenKind {
+        TokenKind::Ampersand
     }
 }
 
 /// The `...` before a parameter.
-pub struct Variadic;
+pub type Variadic = OneMark<VariadicForm>;
 
-impl Part for Variadic {
-    type Tree = ();
+pub struct VariadicForm;
 
+impl MarkForm for VariadicForm {
     ghost sort = { sorts.Variadic };
 
-    ghost view = { λ _. views.of_mark rules.variadic };
+    ghost mark = { kinds.Ellipsis };
 
-    #[tactic(auto, unfolding(stan_stmt_rules::specs::Ahead::pick_at, stan_model_statements::specs::Kinds::same_kind))]
-    fn begins(tokens: &[Token], place: usize) -> bool {
-        stands(tokens, TokenKind::Ellipsis, place)
-    }
+    ghost form = { record { picked = λ a b c d. refl; made_of = refl; weighs = refl; firstless = refl } };
 
-    #[tactic(auto, using(stan_stmt_parts::proofs::Singles::part_enters), unfolding(stan_stmt_parts::specs::Gives::entered, stan_stmt_parts::specs::Gives::inside, stan_stmt_parts::specs::Parse::first_at, stan_model_statements::specs::Kinds::same_kind))]
-    fn read<R: Reader>(
-        parser: &Parser<'_, R>,
-        depth: Depth,
-        place: usize,
-    ) -> Result<((), usize), Stop> {
-        let _depth = enter(depth, 0)?;
-        let to = parser.expect(TokenKind::Ellipsis, place)?;
-        Ok(((), to))
+    fn mark() -> TokenKind {
+        TokenKind::Ellipsis
     }
 }
 
 /// The name of a namespace.
-pub struct NamespaceName;
+pub type NamespaceName = OneWord<NamespaceNameForm>;
 
-impl Part for NamespaceName {
-    type Tree = Token;
+pub struct NamespaceNameForm;
+
+impl WordForm for NamespaceNameForm {
+    type Words = NameWords;
 
     ghost sort = { sorts.NamespaceName };
 
-    ghost view = { views.of_word rules.namespace_name };
-
-    #[tactic(auto, unfolding(stan_stmt_rules::specs::Ahead::pick_at, stan_model_statements::specs::Kinds::same_kind))]
-    fn begins(tokens: &[Token], place: usize) -> bool {
-        is_name(kind_at(tokens, place))
-    }
-
-    #[tactic(auto, using(stan_stmt_parts::proofs::Singles::part_enters), unfolding(stan_stmt_parts::specs::Gives::entered, stan_stmt_parts::specs::Gives::inside, stan_stmt_parts::specs::Parse::first_at, stan_model_statements::specs::Kinds::same_kind))]
-    fn read<R: Reader>(
-        parser: &Parser<'_, R>,
-        depth: Depth,
-        place: usize,
-    ) -> Result<(Token, usize), Stop> {
-        let _depth = enter(depth, 0)?;
-        let (token, to) = parser.word::<NameWords>(place)?;
-        Ok((token, to))
-    }
+    ghost form = { record { picked = λ a b c d. refl; made_of = refl; weighs = refl; firstless = refl } };
 }
 
 /// What a `use` brings, besides classes: `function` or `const`.
-pub struct UseKind;
+pub type UseKind = OneWord<UseKindForm>;
 
-impl Part for UseKind {
-    type Tree = Token;
+pub struct UseKindForm;
+
+impl WordForm for UseKindForm {
+    type Words = UseKinds;
 
     ghost sort = { sorts.UseKind };
 
-    ghost view = { views.of_word rules.use_kind };
-
-    #[tactic(auto, unfolding(stan_stmt_rules::specs::Ahead::pick_at, stan_model_statements::specs::Kinds::same_kind))]
-    fn begins(tokens: &[Token], place: usize) -> bool {
-        is_use_kind(kind_at(tokens, place))
-    }
-
-    #[tactic(auto, using(stan_stmt_parts::proofs::Singles::part_enters), unfolding(stan_stmt_parts::specs::Gives::entered, stan_stmt_parts::specs::Gives::inside, stan_stmt_parts::specs::Parse::first_at, stan_model_statements::specs::Kinds::same_kind))]
-    fn read<R: Reader>(
-        parser: &Parser<'_, R>,
-        depth: Depth,
-        place: usize,
-    ) -> Result<(Token, usize), Stop> {
-        let _depth = enter(depth, 0)?;
-        let (token, to) = parser.word::<UseKinds>(place)?;
-        Ok((token, to))
-    }
+    ghost form = { record { picked = λ a b c d. refl; made_of = refl; weighs = refl; firstless = refl } };
 }
 
 /// The number behind `break` or `continue`.
-pub struct Levels;
+pub type Levels = OneWord<LevelsForm>;
 
-impl Part for Levels {
-    type Tree = Token;
+pub struct LevelsForm;
+
+impl WordForm for LevelsForm {
+    type Words = Integers;
 
     ghost sort = { sorts.Levels };
 
-    ghost view = { views.of_word rules.levels };
-
-    #[tactic(auto, unfolding(stan_stmt_rules::specs::Ahead::pick_at, stan_model_statements::specs::Kinds::same_kind))]
-    fn begins(tokens: &[Token], place: usize) -> bool {
-        stands(tokens, TokenKind::Integer, place)
-    }
-
-    #[tactic(auto, using(stan_stmt_parts::proofs::Singles::part_enters), unfolding(stan_stmt_parts::specs::Gives::entered, stan_stmt_parts::specs::Gives::inside, stan_stmt_parts::specs::Parse::first_at, stan_model_statements::specs::Kinds::same_kind))]
-    fn read<R: Reader>(
-        parser: &Parser<'_, R>,
-        depth: Depth,
-        place: usize,
-    ) -> Result<(Token, usize), Stop> {
-        let _depth = enter(depth, 0)?;
-        let (token, to) = parser.word::<Integers>(place)?;
-        Ok((token, to))
-    }
+    ghost form = { record { picked = λ a b c d. refl; made_of = refl; weighs = refl; firstless = refl } };
 }
 
 /// The variable of a `catch`.
-pub struct CatchVariable;
+pub type CatchVariable = OneWord<CatchVariableForm>;
 
-impl Part for CatchVariable {
-    type Tree = Token;
+pub struct CatchVariableForm;
+
+impl WordForm for CatchVariableForm {
+    type Words = Variables;
 
     ghost sort = { sorts.CatchVariable };
 
-    ghost view = { views.of_word rules.catch_variable };
-
-    #[tactic(auto, unfolding(stan_stmt_rules::specs::Ahead::pick_at, stan_model_statements::specs::Kinds::same_kind))]
-    fn begins(tokens: &[Token], place: usize) -> bool {
-        stands(tokens, TokenKind::Variable, place)
-    }
-
-    #[tactic(auto, using(stan_stmt_parts::proofs::Singles::part_enters), unfolding(stan_stmt_parts::specs::Gives::entered, stan_stmt_parts::specs::Gives::inside, stan_stmt_parts::specs::Parse::first_at, stan_model_statements::specs::Kinds::same_kind))]
-    fn read<R: Reader>(
-        parser: &Parser<'_, R>,
-        depth: Depth,
-        place: usize,
-    ) -> Result<(Token, usize), Stop> {
-        let _depth = enter(depth, 0)?;
-        let (token, to) = parser.word::<Variables>(place)?;
-        Ok((token, to))
-    }
+    ghost form = { record { picked = λ a b c d. refl; made_of = refl; weighs = refl; firstless = refl } };
 }
 
 /// `public`, `protected` or `private` before a parameter.
-pub struct Visibility;
+pub type Visibility = OneWord<VisibilityForm>;
 
-impl Part for Visibility {
-    type Tree = Token;
+pub struct VisibilityForm;
+
+impl WordForm for VisibilityForm {
+    type Words = Visibilities;
 
     ghost sort = { sorts.Visibility };
 
-    ghost view = { views.of_word rules.visible };
-
-    #[tactic(auto, unfolding(stan_stmt_rules::specs::Ahead::pick_at, stan_model_statements::specs::Kinds::same_kind))]
-    fn begins(tokens: &[Token], place: usize) -> bool {
-        is_visibility(kind_at(tokens, place))
-    }
-
-    #[tactic(auto, using(stan_stmt_parts::proofs::Singles::part_enters), unfolding(stan_stmt_parts::specs::Gives::entered, stan_stmt_parts::specs::Gives::inside, stan_stmt_parts::specs::Parse::first_at, stan_model_statements::specs::Kinds::same_kind))]
-    fn read<R: Reader>(
-        parser: &Parser<'_, R>,
-        depth: Depth,
-        place: usize,
-    ) -> Result<(Token, usize), Stop> {
-        let _depth = enter(depth, 0)?;
-        let (token, to) = parser.word::<Visibilities>(place)?;
-        Ok((token, to))
-    }
+    ghost form = { record { picked = λ a b c d. refl; made_of = refl; weighs = refl; firstless = refl } };
 }
 
 /// `abstract` or `final` before a class.
-pub struct ClassModifier;
+pub type ClassModifier = OneWord<ClassModifierForm>;
 
-impl Part for ClassModifier {
-    type Tree = Token;
+pub struct ClassModifierForm;
+
+impl WordForm for ClassModifierForm {
+    type Words = ClassModifiers;
 
     ghost sort = { sorts.ClassModifier };
 
-    ghost view = { views.of_word rules.class_modifier };
-
-    #[tactic(auto, unfolding(stan_stmt_rules::specs::Ahead::pick_at, stan_model_statements::specs::Kinds::same_kind))]
-    fn begins(tokens: &[Token], place: usize) -> bool {
-        is_class_modifier(kind_at(tokens, place))
-    }
-
-    #[tactic(auto, using(stan_stmt_parts::proofs::Singles::part_enters), unfolding(stan_stmt_parts::specs::Gives::entered, stan_stmt_parts::specs::Gives::inside, stan_stmt_parts::specs::Parse::first_at, stan_model_statements::specs::Kinds::same_kind))]
-    fn read<R: Reader>(
-        parser: &Parser<'_, R>,
-        depth: Depth,
-        place: usize,
-    ) -> Result<(Token, usize), Stop> {
-        let _depth = enter(depth, 0)?;
-        let (token, to) = parser.word::<ClassModifiers>(place)?;
-        Ok((token, to))
-    }
+    ghost form = { record { picked = λ a b c d. refl; made_of = refl; weighs = refl; firstless = refl } };
 }
 
 /// The name behind `as` in a `use`.
-pub struct UseAlias;
+pub type UseAlias = MarkedWord<UseAliasForm>;
 
-impl Part for UseAlias {
-    type Tree = Token;
+pub struct UseAliasForm;
+
+impl MarkedWordForm for UseAliasForm {
+    type Words = Identifiers;
 
     ghost sort = { sorts.UseAlias };
 
-    ghost view = { views.behind_mark rules.use_alias };
+    ghost mark = { kinds.As };
 
-    #[tactic(auto, unfolding(stan_stmt_rules::specs::Ahead::pick_at, stan_model_statements::specs::Kinds::same_kind))]
-    fn begins(tokens: &[Token], place: usize) -> bool {
-        stands(tokens, TokenKind::As, place)
-    }
+    ghost form = { record { picked = λ a b c d. refl; made_of = refl; weighs = refl; firstless = refl } };
 
-    #[tactic(auto, using(stan_stmt_parts::proofs::Singles::part_enters), unfolding(stan_stmt_parts::specs::Gives::entered, stan_stmt_parts::specs::Gives::inside, stan_stmt_parts::specs::Parse::first_at, stan_model_statements::specs::Kinds::same_kind))]
-    fn read<R: Reader>(
-        parser: &Parser<'_, R>,
-        depth: Depth,
-        place: usize,
-    ) -> Result<(Token, usize), Stop> {
-        let _depth = enter(depth, 0)?;
-        let to = parser.expect(TokenKind::As, place)?;
-        let (token, to) = parser.word::<Identifiers>(to)?;
-        Ok((token, to))
+    fn mark() -> TokenKind {
+        TokenKind::As
     }
 }
 
 /// The class that a class extends.
-pub struct Extends;
+pub type Extends = MarkedWord<ExtendsForm>;
 
-impl Part for Extends {
-    type Tree = Token;
+pub struct ExtendsForm;
+
+impl MarkedWordForm for ExtendsForm {
+    type Words = NameWords;
 
     ghost sort = { sorts.Extends };
 
-    ghost view = { views.behind_mark rules.extends };
+    ghost mark = { kinds.Extends };
 
-    #[tactic(auto, unfolding(stan_stmt_rules::specs::Ahead::pick_at, stan_model_statements::specs::Kinds::same_kind))]
-    fn begins(tokens: &[Token], place: usize) -> bool {
-        stands(tokens, TokenKind::Extends, place)
-    }
+    ghost form = { record { picked = λ a b c d. refl; made_of = refl; weighs = refl; firstless = refl } };
 
-    #[tactic(auto, using(stan_stmt_parts::proofs::Singles::part_enters), unfolding(stan_stmt_parts::specs::Gives::entered, stan_stmt_parts::specs::Gives::inside, stan_stmt_parts::specs::Parse::first_at, stan_model_statements::specs::Kinds::same_kind))]
-    fn read<R: Reader>(
-        parser: &Parser<'_, R>,
-        depth: Depth,
-        place: usize,
-    ) -> Result<(Token, usize), Stop> {
-        let _depth = enter(depth, 0)?;
-        let to = parser.expect(TokenKind::Extends, place)?;
-        let (token, to) = parser.word::<NameWords>(to)?;
-        Ok((token, to))
+    fn mark() -> TokenKind {
+        TokenKind::Extends
     }
 }
 
 /// A further class of a `catch`.
-pub struct FurtherClass;
+pub type FurtherClass = MarkedWord<FurtherClassForm>;
 
-impl Part for FurtherClass {
-    type Tree = Token;
+pub struct FurtherClassForm;
+
+impl MarkedWordForm for FurtherClassForm {
+    type Words = NameWords;
 
     ghost sort = { sorts.FurtherClass };
 
-    ghost view = { views.behind_mark rules.further_class };
+    ghost mark = { kinds.Bar };
 
-    #[tactic(auto, unfolding(stan_stmt_rules::specs::Ahead::pick_at, stan_model_statements::specs::Kinds::same_kind))]
-    fn begins(tokens: &[Token], place: usize) -> bool {
-        stands(tokens, TokenKind::Bar, place)
-    }
+    ghost form = { record { picked = λ a b c d. refl; made_of = refl; weighs = refl; firstless = refl } };
 
-    #[tactic(auto, using(stan_stmt_parts::proofs::Singles::part_enters), unfolding(stan_stmt_parts::specs::Gives::entered, stan_stmt_parts::specs::Gives::inside, stan_stmt_parts::specs::Parse::first_at, stan_model_statements::specs::Kinds::same_kind))]
-    fn read<R: Reader>(
-        parser: &Parser<'_, R>,
-        depth: Depth,
-        place: usize,
-    ) -> Result<(Token, usize), Stop> {
-        let _depth = enter(depth, 0)?;
-        let to = parser.expect(TokenKind::Bar, place)?;
-        let (token, to) = parser.word::<NameWords>(to)?;
-        Ok((token, to))
+    fn mark() -> TokenKind {
+        TokenKind::Bar
     }
 }
 
 /// A further variable of a `global`.
-pub struct FurtherGlobal;
+pub type FurtherGlobal = MarkedWord<FurtherGlobalForm>;
 
-impl Part for FurtherGlobal {
-    type Tree = Token;
+pub struct FurtherGlobalForm;
+
+impl MarkedWordForm for FurtherGlobalForm {
+    type Words = Variables;
 
     ghost sort = { sorts.FurtherGlobal };
 
-    ghost view = { views.behind_mark rules.further_global };
+    ghost mark = { kinds.Comma };
 
-    #[tactic(auto, unfolding(stan_stmt_rules::specs::Ahead::pick_at, stan_model_statements::specs::Kinds::same_kind))]
-    fn begins(tokens: &[Token], place: usize) -> bool {
-        stands(tokens, TokenKind::Comma, place)
-    }
+    ghost form = { record { picked = λ a b c d. refl; made_of = refl; weighs = refl; firstless = refl } };
 
-    #[tactic(auto, using(stan_stmt_parts::proofs::Singles::part_enters), unfolding(stan_stmt_parts::specs::Gives::entered, stan_stmt_parts::specs::Gives::inside, stan_stmt_parts::specs::Parse::first_at, stan_model_statements::specs::Kinds::same_kind))]
-    fn read<R: Reader>(
-        parser: &Parser<'_, R>,
-        depth: Depth,
-        place: usize,
-    ) -> Result<(Token, usize), Stop> {
-        let _depth = enter(depth, 0)?;
-        let to = parser.expect(TokenKind::Comma, place)?;
-        let (token, to) = parser.word::<Variables>(to)?;
-        Ok((token, to))
+    fn mark() -> TokenKind {
+        TokenKind::Comma
     }
 }
 
 /// A further name of a type.
-pub struct FurtherType;
+pub type FurtherType = MarkedWord<FurtherTypeForm>;
 
-impl Part for FurtherType {
-    type Tree = Token;
+pub struct FurtherTypeForm;
+
+impl MarkedWordForm for FurtherTypeForm {
+    type Words = TypeNames;
 
     ghost sort = { sorts.FurtherType };
 
-    ghost view = { views.behind_mark rules.further_type };
+    ghost mark = { kinds.Bar };
 
-    #[tactic(auto, unfolding(stan_stmt_rules::specs::Ahead::pick_at, stan_model_statements::specs::Kinds::same_kind))]
-    fn begins(tokens: &[Token], place: usize) -> bool {
-        stands(tokens, TokenKind::Bar, place)
-    }
+    ghost form = { record { picked = λ a b c d. refl; made_of = refl; weighs = refl; firstless = refl } };
 
-    #[tactic(auto, using(stan_stmt_parts::proofs::Singles::part_enters), unfolding(stan_stmt_parts::specs::Gives::entered, stan_stmt_parts::specs::Gives::inside, stan_stmt_parts::specs::Parse::first_at, stan_model_statements::specs::Kinds::same_kind))]
-    fn read<R: Reader>(
-        parser: &Parser<'_, R>,
-        depth: Depth,
-        place: usize,
-    ) -> Result<(Token, usize), Stop> {
-        let _depth = enter(depth, 0)?;
-        let to = parser.expect(TokenKind::Bar, place)?;
-        let (token, to) = parser.word::<TypeNames>(to)?;
-        Ok((token, to))
+    fn mark() -> TokenKind {
+        TokenKind::Bar
     }
 }
 
 /// A further name of a list.
-pub struct FurtherName;
+pub type FurtherName = MarkedWord<FurtherNameForm>;
 
-impl Part for FurtherName {
-    type Tree = Token;
+pub struct FurtherNameForm;
+
+impl MarkedWordForm for FurtherNameForm {
+    type Words = NameWords;
 
     ghost sort = { sorts.FurtherName };
 
-    ghost view = { views.behind_mark rules.further_name };
+    ghost mark = { kinds.Comma };
 
-    #[tactic(auto, unfolding(stan_stmt_rules::specs::Ahead::pick_at, stan_model_statements::specs::Kinds::same_kind))]
-    fn begins(tokens: &[Token], place: usize) -> bool {
-        stands(tokens, TokenKind::Comma, place)
-    }
+    ghost form = { record { picked = λ a b c d. refl; made_of = refl; weighs = refl; firstless = refl } };
 
-    #[tactic(auto, using(stan_stmt_parts::proofs::Singles::part_enters), unfolding(stan_stmt_parts::specs::Gives::entered, stan_stmt_parts::specs::Gives::inside, stan_stmt_parts::specs::Parse::first_at, stan_model_statements::specs::Kinds::same_kind))]
-    fn read<R: Reader>(
-        parser: &Parser<'_, R>,
-        depth: Depth,
-        place: usize,
-    ) -> Result<(Token, usize), Stop> {
-        let _depth = enter(depth, 0)?;
-        let to = parser.expect(TokenKind::Comma, place)?;
-        let (token, to) = parser.word::<NameWords>(to)?;
-        Ok((token, to))
+    fn mark() -> TokenKind {
+        TokenKind::Comma
     }
 }

@@ -1,3 +1,4 @@
 pub mod Singles
 pub mod Turns
 pub mod KindLemmas
+pub mod Options

@@ -143,3 +143,14 @@ module _ (ts : List Token) (l : Leaves) where
       by (inl h) = rw (only_pick s (kind_at ts at) (kind_at ts (at + 1)) (kind_at ts (at + 2)) (behind ts d.levels at) only, h) (read_enters d.room d.levels (single s) at)
       by (inr h) = rw (only_pick s (kind_at ts at) (kind_at ts (at + 1)) (kind_at ts (at + 2)) (behind ts d.levels at) only, h)
           (sym (nothing (enter d (weight (single s))) (λ e. made ts l e (single s) at) (λ e. not_made (begins s) (single s) e at (symbols (single s)) refl m h)))
+
+  -- where nothing is known of what it begins with
+  pub part_if : (d : Depth) (s : Sort) (at : ℕ) → is_single s ≡ true → part ts l d s at ≡ (if has (begins s) (kind_at ts at) then entered ts l d (single s) at else None)
+  unfolding part one pick_at
+  part_if d s at only = by (truth (has (begins s) (kind_at ts at)))
+    where
+      by : (has (begins s) (kind_at ts at) ≡ true) ⊎ (has (begins s) (kind_at ts at) ≡ false)
+          → (pick s (kind_at ts at) (kind_at ts (at + 1)) (kind_at ts (at + 2)) (behind ts d.levels at) >>= λ r. pieced ts l.named (l.value ts) (behind ts) (below ts l d) d.levels r at)
+          ≡ (if has (begins s) (kind_at ts at) then entered ts l d (single s) at else None)
+      by (inl h) = rw (only_pick s (kind_at ts at) (kind_at ts (at + 1)) (kind_at ts (at + 2)) (behind ts d.levels at) only, h) (read_enters d.room d.levels (single s) at)
+      by (inr h) = rw (only_pick s (kind_at ts at) (kind_at ts (at + 1)) (kind_at ts (at + 2)) (behind ts d.levels at) only, h) refl

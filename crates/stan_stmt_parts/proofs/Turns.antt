@@ -14,6 +14,7 @@ use Rattle.stan_stmt_rules.specs.Parse.{choose, behind}
 use Rattle.stan_stmt_parts.specs.declared.depth.Depth.{Depth}
 use Rattle.stan_stmt_parts.specs.Parse.{Piece, pieced, one, many, all}
 use Rattle.stan_stmt_parts.specs.Gives.{Leaves, below, part, every, entered}
+use Rattle.stan_stmt_parts.proofs.KindLemmas.{see}
 use Rattle.stan_stmt_parts.proofs.Singles.{read_enters}
 
 picks : (o : Option Rule) → is_some o ≡ true → (r : Rule) × (o ≡ Some r)
@@ -30,6 +31,16 @@ module _ (ts : List Token) (l : Leaves) (d : Depth) (s : Sort) where
   pub part_by : (r : Rule) (at : ℕ) → Next at ≡ Some r → part ts l d s at ≡ entered ts l d r at
   unfolding part one
   part_by r at h = rw h (read_enters ts l d.room d.levels r at)
+
+  -- a part of several productions is the one that is picked
+  pub part_picked : (at : ℕ) → part ts l d s at ≡ (Next at >>= λ r. entered ts l d r at)
+  unfolding part one
+  part_picked at = by (see (Next at))
+    where
+      by : (Next at ≡ None) ⊎ ((r : Rule) × (Next at ≡ Some r))
+          → (Next at >>= λ r. pieced ts l.named (l.value ts) (behind ts) (below ts l d) d.levels r at) ≡ (Next at >>= λ r. entered ts l d r at)
+      by (inl h) = rw h refl
+      by (inr h) = rw h.1 (read_enters ts l d.room d.levels h.0 at)
 
   pub no_part : (at : ℕ) → Next at ≡ None → part ts l d s at ≡ None
   unfolding part one

@@ -5,20 +5,20 @@ use Rattle.stan_model_grammar.specs.declared.token.Token.{Token}
 use Rattle.stan_expr_rules.specs.Parse.{Read, ◌>>=◌}
 use Rattle.stan_model_statements.specs.Symbols.{Sort, Symbol}
 use Rattle.stan_model_statements.specs.Rules.{Rule, symbols, weight}
-use Rattle.stan_model_statements.specs.Trees.{Value}
-use Rattle.stan_model_files.specs.Put.{put}
+use Rattle.stan_model_files.specs.Put.{put, put_value}
 use Rattle.stan_model_files.specs.Shapes.{Shape, nil}
 use Rattle.stan_stmt_rules.specs.Parse.{behind, most}
-use Rattle.stan_stmt_trees.specs.Tree.{statement_of}
+use Rattle.stan_stmt_trees.specs.Tree.{statement_of, value_of}
 use Rattle.stan_stmt_trees.specs.declared.statement.Stmt.{Stmt}
+use Rattle.stan_stmt_trees.specs.declared.statement.Value.{Value}
 use Rattle.stan_stmt_parts.specs.declared.depth.Depth.{Depth}
-use Rattle.stan_stmt_parts.specs.Parse.{Piece, piece_of, first_at, one, may, all, run_by, read}
+use Rattle.stan_stmt_parts.specs.Parse.{Piece, Putting, piece_of, first_at, one, may, all, run_by, read}
 
 -- What productions end in, besides tokens by their kinds: which token is the word `strict_types`, and which expression is read at a place,
 -- with how deep productions may still nest, how many levels are open, and whether it may be a pattern.
 pub record Leaves : Type 0 where
   pub named : Token → Bool
-  pub value : List Token → ℕ → ℕ → Bool → ℕ → Read Value
+  pub value : List Token → ℕ → ℕ → Bool → ℕ → Read Putting
 
 module _ (ts : List Token) (l : Leaves) (d : Depth) where
   abbrev pub below : Rule → ℕ → Read Shape
@@ -48,6 +48,10 @@ enter d w = if nat_le 1 d.room then (if nat_le (d.levels + w) most then Some (re
 -- a production there
 unfoldable pub entered : List Token → Leaves → Depth → Rule → ℕ → Read Piece
 entered ts l d r place = enter d (weight r) >>= λ e. made ts l e r place
+
+-- a value as it is put before what stands behind it
+abbrev pub putting : Value → Putting
+putting v = put_value (value_of v)
 
 -- a statement as a part
 unfoldable pub statement_piece : Stmt → Piece

@@ -6,9 +6,7 @@ use Rattle.stan_model_grammar.specs.declared.token.TokenKind.{TokenKind}
 use Rattle.stan_expr_rules.specs.Parse.{Read, ◌>>=◌}
 use Rattle.stan_model_statements.specs.Symbols.{Sort, One, May, Many, Again, Symbol, Mark, Word, Checked, Expression, Part}
 use Rattle.stan_model_statements.specs.Rules.{Rule, empty_statement, sort_of, symbols, weight}
-use Rattle.stan_model_statements.specs.Trees.{Value}
-use Rattle.stan_model_files.specs.Put.{put_value}
-use Rattle.stan_model_files.specs.Shapes.{Shape, nil, mark, word, expr, none, some, has_first}
+use Rattle.stan_model_files.specs.Shapes.{Shape, nil, mark, word, none, some, has_first}
 use Rattle.stan_stmt_rules.specs.Ahead.{pick_at}
 use Rattle.stan_stmt_rules.specs.Parse.{after, word_at, checked_at, choose, most}
 
@@ -30,19 +28,23 @@ abbrev pub items : List Piece → Shape → Shape
 items [] f = none f
 items (p ∷ ps) f = some p.0 p.1 p.2 (items ps f)
 
+-- what is read of an expression with the bodies of its closures: how it is put before what stands behind it
+abbrev pub Putting : Type 0
+Putting = Shape → Shape
+
 -- the part that was put first
 abbrev pub piece_of : Shape → Piece
 piece_of (some r t ps f) = (r, t, ps)
 piece_of _ = (empty_statement, None, nil)
 
 -- Symbols one after the other, by what reads an expression, a part that stands, one that may, and all that stand behind one another.
-module _ (ts : List Token) (named : Token → Bool) (value : Bool → ℕ → Read Value) (one : Sort → ℕ → Read Piece) (may : Sort → ℕ → Read (Option Piece)) (all : Sort → ℕ → Read (List Piece)) where
+module _ (ts : List Token) (named : Token → Bool) (value : Bool → ℕ → Read Putting) (one : Sort → ℕ → Read Piece) (may : Sort → ℕ → Read (Option Piece)) (all : Sort → ℕ → Read (List Piece)) where
   abbrev pub run_by : List Symbol → ℕ → Read Shape
   run_by [] at = Some (nil, at)
   run_by (Mark k ∷ xs) at = after ts k at >>= λ b. run_by xs b >>= onto mark
   run_by (Word ks ∷ xs) at = word_at ts ks at >>= λ t. run_by xs (at + 1) >>= onto (word t)
   run_by (Checked c ∷ xs) at = checked_at ts named c at >>= λ t. run_by xs (at + 1) >>= onto (word t)
-  run_by (Expression p ∷ xs) at = value p at >>= λ v. run_by xs v.1 >>= onto (put_value v.0)
+  run_by (Expression p ∷ xs) at = value p at >>= λ v. run_by xs v.1 >>= onto v.0
   run_by (Part One s ∷ xs) at = one s at >>= λ p. run_by xs p.1 >>= onto (standing p.0)
   run_by (Part May s ∷ xs) at = may s at >>= λ p. run_by xs p.1 >>= onto (optional p.0)
   run_by (Part Many s ∷ xs) at = all s at >>= λ p. run_by xs p.1 >>= onto (items p.0)
@@ -54,7 +56,7 @@ first_at ts r at = if has_first (sort_of r) then slice_get ts at else None
 
 -- `value room levels pattern at` is the expression that is read there, with what the bodies of its closures hold. `behind levels at` is the
 -- token behind the expression there.
-module _ (ts : List Token) (named : Token → Bool) (value : ℕ → ℕ → Bool → ℕ → Read Value) (behind : ℕ → ℕ → TokenKind) where
+module _ (ts : List Token) (named : Token → Bool) (value : ℕ → ℕ → Bool → ℕ → Read Putting) (behind : ℕ → ℕ → TokenKind) where
   module _ (below : Rule → ℕ → Read Shape) (levels : ℕ) where
     abbrev pub pieced : Rule → ℕ → Read Piece
     pieced r at = below r at >>= λ p. Some ((r, first_at ts r at, p.0), p.1)

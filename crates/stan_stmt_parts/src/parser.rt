@@ -1,6 +1,6 @@
 //! The parser: what stands at a place, and parts that may stand or stand behind one another.
 
-ghost use Rattle.std.specs.Prelude.{◌≡◌, ◌<◌, ◌≤◌, ◌+◌, ◌^◌, ◌∷◌, IfOk, Bool, ℕ, List, length, map, option_map};
+ghost use Rattle.std.specs.Prelude.{◌≡◌, ◌<◌, ◌+◌, ◌^◌, ◌∷◌, IfOk, Bool, ℕ, List, Some, length, map, option_map, slice_get};
 ghost use Rattle.std.specs.Option.{is_some};
 ghost use Rattle.stan_model_grammar.specs.declared.token.TokenKind.{TokenKind};
 ghost use Rattle.stan_model_grammar.specs.Strata as strata;
@@ -12,7 +12,6 @@ ghost use Rattle.stan_stmt_parts.specs.Gives.{Leaves};
 ghost use Rattle.stan_stmt_parts.specs.Parse.{Piece};
 ghost use Rattle.stan_stmt_rules.specs.Ahead.{pick_at};
 ghost use Rattle.stan_stmt_rules.specs.Parse as rules;
-ghost use Rattle.stan_stmt_trees.specs.Tree.{value_of};
 
 use crate::depth::Depth;
 use sqlite_items::Items;
@@ -27,8 +26,11 @@ use std::alloc::{AllocError, Global};
 pub trait Reader {
     ghost leaves: { Self → Leaves };
 
-    /// The most room with which it may be called.
+    /// It may be called with less room than this.
     ghost room: { Self → ℕ };
+
+    /// Whether it may be called.
+    ghost ready: { Self → Type 0 };
 
     /// Whether it is the word `strict_types`.
     fn is_strict_types(&self, token: Token) -> bool
@@ -44,8 +46,21 @@ pub trait Reader {
         place: usize,
     ) -> Result<(Value, usize), Stop>
         requires few { length tokens.now < 2 ^ 32 }
-        requires room { depth.room ≤ room self.now }
-        ensures { Gives (at value_of) result ((leaves self.now).value tokens.now depth.room depth.levels pattern place) };
+        requires room { depth.room < room self.now }
+        requires ready { ready self.now }
+        ensures { Gives (at spec.putting) result ((leaves self.now).value tokens.now depth.room depth.levels pattern place) };
+
+    /// The kind of the token behind the expression there, which may be a pattern.
+    fn behind(
+        &self,
+        alloc: Global,
+        tokens: &[Token],
+        depth: Depth,
+        place: usize,
+    ) -> Result<TokenKind, Stop>
+        requires few { length tokens.now < 2 ^ 32 }
+        requires ready { ready self.now }
+        ensures { Gives (λ x. x) result (Some (rules.behind tokens.now depth.levels place)) };
 
     fn statement(
         &self,
@@ -55,7 +70,8 @@ pub trait Reader {
         place: usize,
     ) -> Result<(Stmt, usize), Stop>
         requires few { length tokens.now < 2 ^ 32 }
-        requires room { depth.room ≤ room self.now }
+        requires room { depth.room < room self.now }
+        requires ready { ready self.now }
         ensures { Gives (at spec.statement_piece) result (spec.part tokens.now (leaves self.now) depth sorts.Statement place) };
 }
 
@@ -94,7 +110,8 @@ pub trait Part {
         depth: Depth,
         place: usize,
     ) -> Result<(Self::Tree, usize), Stop>
-        requires { depth.room ≤ R.room parser.now.reader }
+        requires room { depth.room < R.room parser.now.reader }
+        requires ready { R.ready parser.now.reader }
         ensures { Gives (at view) result (spec.part parser.now.tokens.now (R.leaves parser.now.reader) depth sort place) };
 }
 
@@ -109,6 +126,22 @@ impl<'t, R: Reader> Parser<'t, R> {
         };
         if token.kind == kind {
             Ok(place + 1)
+        } else {
+            Err(Stop::Absent)
+        }
+    }
+
+    /// The token of this kind with which something begins, and the place behind it.
+    #[tactic(auto, unfolding(stan_stmt_rules::specs::Parse::after, stan_model_statements::specs::Kinds::same_kind))]
+    pub fn keyword(&self, kind: TokenKind, place: usize) -> Result<(Token, usize), Stop>
+        ensures behind { Gives (λ x. x.1) result (rules.after self.now.tokens.now kind place) }
+        ensures token { IfOk result (λ x. slice_get self.now.tokens.now place ≡ Some x.0) }
+    {
+        let Some(token) = token_at(self.tokens, place) else {
+            return Err(Stop::Absent);
+        };
+        if token.kind == kind {
+            Ok((token, place + 1))
         } else {
             Err(Stop::Absent)
         }
@@ -164,16 +197,26 @@ impl<'t, R: Reader> Parser<'t, R> {
 
     /// An expression.
     pub fn value(&self, depth: Depth, pattern: bool, place: usize) -> Result<(Value, usize), Stop>
-        requires { depth.room ≤ R.room self.now.reader }
-        ensures { Gives (at value_of) result ((R.leaves self.now.reader).value self.now.tokens.now depth.room depth.levels pattern place) }
+        requires room { depth.room < R.room self.now.reader }
+        requires ready { R.ready self.now.reader }
+        ensures { Gives (at spec.putting) result ((R.leaves self.now.reader).value self.now.tokens.now depth.room depth.levels pattern place) }
     {
         self.reader
             .value(self.alloc, self.tokens, depth, pattern, place)
     }
 
+    /// The kind of the token behind the expression there, which may be a pattern.
+    pub fn behind(&self, depth: Depth, place: usize) -> Result<TokenKind, Stop>
+        requires { R.ready self.now.reader }
+        ensures { Gives (λ x. x) result (Some (rules.behind self.now.tokens.now depth.levels place)) }
+    {
+        self.reader.behind(self.alloc, self.tokens, depth, place)
+    }
+
     /// A statement, as a part of another.
     pub fn statement(&self, depth: Depth, place: usize) -> Result<(Stmt, usize), Stop>
-        requires { depth.room ≤ R.room self.now.reader }
+        requires room { depth.room < R.room self.now.reader }
+        requires ready { R.ready self.now.reader }
         ensures { Gives (at spec.statement_piece) result (spec.part self.now.tokens.now (R.leaves self.now.reader) depth sorts.Statement place) }
     {
         self.reader.statement(self.alloc, self.tokens, depth, place)
@@ -181,7 +224,8 @@ impl<'t, R: Reader> Parser<'t, R> {
 
     /// Parts one behind the other, as many as there are.
     pub fn all<T: Part>(&self, depth: Depth, from: usize) -> Result<(Items<T::Tree>, usize), Stop>
-        requires { depth.room ≤ R.room self.now.reader }
+        requires room { depth.room < R.room self.now.reader }
+        requires ready { R.ready self.now.reader }
         ensures { Gives (at (map T.view)) result (spec.every self.now.tokens.now (R.leaves self.now.reader) depth T.sort from) }
     {
         let mut found = Items::new(self.alloc);
@@ -204,7 +248,8 @@ impl<'t, R: Reader> Parser<'t, R> {
         depth: Depth,
         place: usize,
     ) -> Result<(Option<T::Tree>, usize), Stop>
-        requires { depth.room ≤ R.room self.now.reader }
+        requires room { depth.room < R.room self.now.reader }
+        requires ready { R.ready self.now.reader }
         ensures { Gives (at (option_map T.view)) result (spec.maybe self.now.tokens.now (R.leaves self.now.reader) depth T.sort place) }
     {
         if T::begins(self.tokens, place) {
@@ -232,4 +277,15 @@ pub fn stands(tokens: &[Token], kind: TokenKind, place: usize) -> bool
     ensures { result ≡ same_kind (strata.kind_at tokens.now place) kind }
 {
     kind_at(tokens, place) == kind
+}
+
+/// The kind of the token two places on.
+pub fn third_kind(tokens: &[Token], place: usize) -> TokenKind
+    ensures { result ≡ strata.kind_at tokens.now (place + 2) }
+{
+    if place < tokens.len() {
+        next_kind(tokens, place + 1)
+    } else {
+        TokenKind::End
+    }
 }

@@ -1,0 +1,16 @@
+use Rattle.std.proofs.Common.{arith, [], ◌∷◌, false}
+use Rattle.stan_stmt_parts.specs.Gives.{inside}
+use Rattle.stan_stmt_items.proofs.FormLemmas.{worded_part}
+use Rattle.stan_stmt_items.proofs.forms.OneWordPart.read.Goals as goal
+
+pub returns-in_err-_depth : goal.returns-in_err-_depth
+unfolding inside
+returns-in_err-_depth g c = grind (arith, worded_part c.args.parser.now.tokens.now (g.R.Reader.leaves c.args.parser.now.reader) c.args.depth g.F.WordForm.sort g.F.Words.Words.kinds ([]) c.args.place g.met.F.WordForm.form)
+
+pub returns-in_err-token : goal.returns-in_err-token
+unfolding inside
+returns-in_err-token g c = grind (arith, worded_part c.args.parser.now.tokens.now (g.R.Reader.leaves c.args.parser.now.reader) c.args.depth g.F.WordForm.sort g.F.Words.Words.kinds ([]) c.args.place g.met.F.WordForm.form)
+
+pub returns : goal.returns
+unfolding inside
+returns g c = grind (arith, worded_part c.args.parser.now.tokens.now (g.R.Reader.leaves c.args.parser.now.reader) c.args.depth g.F.WordForm.sort g.F.Words.Words.kinds ([]) c.args.place g.met.F.WordForm.form)

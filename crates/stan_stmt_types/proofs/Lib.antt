@@ -1,0 +1,2 @@
+pub mod ParameterLemmas
+pub mod TypeLemmas
