@@ -5,7 +5,7 @@ use Rattle.stan_model_doc.specs.Rules as r
 use Rattle.stan_model_doc.specs.Trees.{Forest, nil, mark, word, any, none, some}
 use Rattle.stan_model_doc.specs.Doc as doc
 use Rattle.stan_doc_descent.specs.Parse.{Piece, standing}
-use Rattle.stan_doc_trees.specs.Tree.{further, listed, flagged, optional, written_of}
+use Rattle.stan_doc_trees.specs.Tree.{further, listed, flagged, optional, stood, written_of}
 use Rattle.stan_doc_trees.specs.declared.tag.DocTag.{DocTag}
 use Rattle.stan_doc_trees.specs.declared.tag.DocTag.TheVariants as tags
 use Rattle.stan_doc_trees.specs.declared.tag.DocTree.{DocTree}
@@ -28,10 +28,6 @@ abbrev pub parameters_of : List Piece → Forest
 parameters_of [] = none (mark nil)
 parameters_of (p ∷ ps) = some r.parameters (listed r.further_parameter (p ∷ ps) nil) (mark nil)
 
-abbrev pub returned_of : Option Piece → Forest → Forest
-returned_of None f = none f
-returned_of (Some p) f = standing p f
-
 -- the production and what it is made of
 abbrev pub form_of : TagForm → Piece
 form_of (forms.Param t w reference spread v) = (r.param_tag, word t (standing (written_of w) (flagged r.reference reference (flagged r.spread spread (word v nil)))))
@@ -39,7 +35,7 @@ form_of (forms.Return t w) = (r.return_tag, word t (standing (written_of w) nil)
 form_of (forms.Var t w v) = (r.var_tag, word t (standing (written_of w) (variable_of v)))
 form_of (forms.Property t w v) = (r.property_tag, word t (standing (written_of w) (word v nil)))
 form_of (forms.Method t static returned name ps) =
-    (r.method_tag, word t (flagged r.static_word static (returned_of (option_map written_of returned) (word name (mark (parameters_of (map parameter_of ps)))))))
+    (r.method_tag, word t (flagged r.static_word static (stood (option_map written_of returned) (word name (mark (parameters_of (map parameter_of ps)))))))
 form_of (forms.Template t name bound) = (r.template_tag, word t (word name (optional r.bound (option_map written_of bound) nil)))
 form_of (forms.Inherit t w) = (r.inherit_tag, word t (standing (written_of w) nil))
 

@@ -36,6 +36,10 @@ listed r (p ∷ ps) f = standing p (further r ps f)
 
 -- ---- parts that may stand
 
+abbrev pub stood : Option Piece → Forest → Forest
+stood None f = none f
+stood (Some p) f = standing p f
+
 -- a part that is a mark
 abbrev pub flagged : r.Rule → Bool → Forest → Forest
 flagged r true f = some r (mark nil) f
