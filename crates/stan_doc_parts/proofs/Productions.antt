@@ -111,7 +111,7 @@ module _ (ts : List DocToken) where
   pieced r None other = refl
   pieced r (Some p) other = refl
 
-  level_is : (n : ℕ) (r : Rule) (at : ℕ) (other : Read Piece) → is_plain r ≡ true → choose (level n ts r at) (λ p. Some ((r, p.0), p.1)) other ≡ choose (whole ts n r at) Some other
+  pub level_is : (n : ℕ) (r : Rule) (at : ℕ) (other : Read Piece) → is_plain r ≡ true → choose (level n ts r at) (λ p. Some ((r, p.0), p.1)) other ≡ choose (whole ts n r at) Some other
   unfolding whole
   level_is zero r at other h = refl
   level_is (suc n) r at other h =

@@ -9,6 +9,7 @@ use Rattle.stan_model_doc.specs.Symbols.{Stop, Nowhere, AtComma}
 use Rattle.stan_model_doc.specs.Grammar.{closer, is_closer, stops, matches}
 use Rattle.stan_doc_descent.specs.Parse.{any_size, any_at}
 use Rattle.stan_doc_descent.proofs.Words.{truth}
+use Rattle.stan_doc_descent.proofs.Texts.{any_at_is}
 use Rattle.stan_doc_texts.specs.Walk.{walk, by_turn, turn_of, left, opened, marked, is_outside}
 
 -- the tokens before the first bracket that closes none of them: whether brackets match in them, and then how many there are
@@ -135,3 +136,9 @@ any_beyond ts stop at lt = by (nat_le (at + any_size stop [] (drop at ts)) (leng
     by : (b : Bool) → nat_le (at + any_size stop [] (drop at ts)) (length ts) ≡ b → (if b && matches stop [] (slice_range ts at (at + any_size stop [] (drop at ts))) then (let s : ℕ → Option ℕ = Some in s (any_size stop [] (drop at ts))) else None) ≡ None
     by true e = absurd (omega (arith, leb-true (at + any_size stop [] (drop at ts)) (length ts) e, lt))
     by false e = refl
+
+-- a text that goes on to where it has to end stands within the tokens
+pub walked_within : (ts : List DocToken) (stop : Stop) (at size : ℕ) (whole : Bool) → at ≤ length ts → whole ≡ true → (size, whole) ≡ walk stop [] (drop at ts) 0 0 → at + size ≤ length ts
+walked_within ts stop at size whole le is h =
+    let there : any_at ts stop at ≡ Some size = any_walked ts stop at le ∙ rw (sym h, is) refl in
+    (any_at_is ts stop at size there).0

@@ -1,6 +1,6 @@
 //! How far a text goes.
 
-ghost use Rattle.std.specs.Prelude.{◌≡◌, ◌≤◌, ◌<◌, ◌^◌, length, drop, [], IfOk};
+ghost use Rattle.std.specs.Prelude.{◌≡◌, ◌≤◌, ◌+◌, length, drop, [], IfOk};
 ghost use Rattle.stan_model_doc.specs.Symbols as sorts;
 ghost use Rattle.stan_places.specs.Gives.{Gives};
 ghost use Rattle.stan_doc_descent.specs.Parse as parse;
@@ -47,7 +47,8 @@ fn extent(
 /// How many tokens stand before a bracket that closes none of them, if brackets match in them.
 #[tactic(auto, using(crate::proofs::Extents::any_walked, crate::proofs::Extents::any_beyond))]
 pub fn any_at(alloc: Global, tokens: &[DocToken], place: usize) -> Result<usize, Stop>
-    ensures { Gives (λ x. x) result (parse.any_at tokens.now sorts.Nowhere place) }
+    ensures size { Gives (λ x. x) result (parse.any_at tokens.now sorts.Nowhere place) }
+    ensures within { IfOk result (λ n. place + n ≤ length tokens.now) }
 {
     if place > tokens.len() {
         return Err(Stop::Absent);
