@@ -106,11 +106,15 @@ is_one rs = false
 abbrev pub is_single : Sort → Bool
 is_single s = is_one (order s) && are_plain (order s)
 
-module _ (ts : List DocToken) where
-  pieced : (r : Rule) (o : Read Forest) (other : Read Piece) → choose o (λ p. let s : (Piece × ℕ) → Option (Piece × ℕ) = Some in s ((r, p.0), p.1)) other ≡ choose (o >>= λ p. let s : (Piece × ℕ) → Option (Piece × ℕ) = Some in s ((r, p.0), p.1)) Some other
-  pieced r None other = refl
-  pieced r (Some p) other = refl
+pub pieced : (r : Rule) (o : Read Forest) (other : Read Piece) → choose o (λ p. let s : (Piece × ℕ) → Option (Piece × ℕ) = Some in s ((r, p.0), p.1)) other ≡ choose (o >>= λ p. let s : (Piece × ℕ) → Option (Piece × ℕ) = Some in s ((r, p.0), p.1)) Some other
+pieced r None other = refl
+pieced r (Some p) other = refl
 
+pub itself : (o : Read Piece) → choose o Some None ≡ o
+itself None = refl
+itself (Some p) = refl
+
+module _ (ts : List DocToken) where
   pub level_is : (n : ℕ) (r : Rule) (at : ℕ) (other : Read Piece) → is_plain r ≡ true → choose (level n ts r at) (λ p. Some ((r, p.0), p.1)) other ≡ choose (whole ts n r at) Some other
   unfolding whole
   level_is zero r at other h = refl
@@ -135,10 +139,6 @@ module _ (ts : List DocToken) where
   unfolding part
   part_enters n s at h = let both = and_split (is_one (order s)) (are_plain (order s)) h in by (order s) both.0 both.1
     where
-      itself : (o : Read Piece) → choose o Some None ≡ o
-      itself None = refl
-      itself (Some p) = refl
-
       by : (rs : List Rule) → is_one rs ≡ true → are_plain rs ≡ true → first ts (level n ts) rs at ≡ whole ts n (head rs) at
       by [] i p = absurd cc
       by (r ∷ []) i p = level_is n r at None (and_split (is_plain r) true p).0 ∙ itself (whole ts n r at)
