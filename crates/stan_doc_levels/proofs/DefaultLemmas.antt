@@ -65,10 +65,10 @@ goes_on k.Comma c s = absurd cc
 goes_on kind c s = refl
 
 module _ (ts : List DocToken) where
-  abbrev IsText : ℕ → ℕ → Type 0
+  abbrev pub IsText : ℕ → ℕ → Type 0
   IsText at n = (at + n ≤ length ts) × IsTrue (matches AtComma [] (slice_range ts at (at + n)))
 
-  nothing : (at : ℕ) → at ≤ length ts → IsText at 0
+  pub nothing : (at : ℕ) → at ≤ length ts → IsText at 0
   nothing at le =
       let e : 0 ≡ (at + 0) - at = omega arith in
       (omega (arith, le), subst (λ m. matches AtComma [] (take m (drop at ts)) ≡ true) e refl)
@@ -76,7 +76,7 @@ module _ (ts : List DocToken) where
   is_text : (at n : ℕ) → nat_le (at + n) (length ts) && matches AtComma [] (slice_range ts at (at + n)) ≡ true → IsText at n
   is_text at n h = let both = and_split (nat_le (at + n) (length ts)) _ h in (leb-true (at + n) (length ts) both.0, both.1)
 
-  most_is : (at n : ℕ) → at ≤ length ts → IsText at (most ts at n)
+  pub most_is : (at n : ℕ) → at ≤ length ts → IsText at (most ts at n)
   most_is at zero le = nothing at le
   most_is at (suc n) le = by (nat_le (at + suc n) (length ts) && matches AtComma [] (slice_range ts at (at + suc n))) (is_text at (suc n)) (most_is at n le)
     where
@@ -84,7 +84,7 @@ module _ (ts : List DocToken) where
       by true x y = x refl
       by false x y = y
 
-  most_max : (at n m : ℕ) → IsText at n → n ≤ m → n ≤ most ts at m
+  pub most_max : (at n m : ℕ) → IsText at n → n ≤ m → n ≤ most ts at m
   most_max at n zero h le = le
   most_max at n (suc m) h le = by (nat_le (at + suc m) (length ts) && matches AtComma [] (slice_range ts at (at + suc m))) refl (most_max at n m h)
     where
