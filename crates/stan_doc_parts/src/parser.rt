@@ -41,11 +41,7 @@ pub trait Part {
     fn read<
         W: Fn(Global, &[DocToken], usize, usize) -> Result<(Written, usize), Stop>,
         U: Fn(Global, &[DocToken], usize, usize) -> Result<(Unary, usize), Stop>,
-    >(
-        parser: &Parser<'_, W, U>,
-        levels: usize,
-        place: usize,
-    ) -> Result<(Self::Tree, usize), Stop>
+    >(parser: &Parser<'_, W, U>, levels: usize, place: usize) -> Result<(Self::Tree, usize), Stop>
         requires nests { Nests parser.now.levels (W.pre parser.now.read_written) (W.post parser.now.read_written) (U.pre parser.now.read_unary) (U.post parser.now.read_unary) }
         requires room { levels ≤ parser.now.levels }
         ensures { Gives (at view) result (spec.part parser.now.tokens.now levels sort place) };
@@ -108,11 +104,7 @@ impl<
     }
 
     /// Parts one behind the other, as many as there are.
-    pub fn all<T: Part>(
-        &self,
-        levels: usize,
-        from: usize,
-    ) -> Result<(Items<T::Tree>, usize), Stop>
+    pub fn all<T: Part>(&self, levels: usize, from: usize) -> Result<(Items<T::Tree>, usize), Stop>
         requires nests { Nests self.now.levels (W.pre self.now.read_written) (W.post self.now.read_written) (U.pre self.now.read_unary) (U.post self.now.read_unary) }
         requires room { levels ≤ self.now.levels }
         ensures { Gives (at (map T.view)) result (spec.every self.now.tokens.now levels T.sort from) }

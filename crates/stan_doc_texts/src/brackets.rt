@@ -95,11 +95,7 @@ pub fn marked(awaited: &Vec<DocKind>, place: usize, last: usize) -> usize
 }
 
 /// What a token of this kind does to a text in which these brackets are awaited, the innermost last.
-pub fn take(
-    border: Border,
-    awaited: &mut Vec<DocKind>,
-    kind: DocKind,
-) -> Result<Turn, AllocError>
+pub fn take(border: Border, awaited: &mut Vec<DocKind>, kind: DocKind) -> Result<Turn, AllocError>
     ensures turn { IfOk result (λ t. t ≡ turn_of (stop_of border) (reverse awaited.old.items) kind) }
     ensures awaited { IfOk result (λ t. t ≡ Goes → reverse awaited.new.items ≡ left (reverse awaited.old.items) kind) }
 {

@@ -16,7 +16,10 @@ pub enum TagForm {
         variable: DocToken,
     },
     /// `@return`
-    Return { word: DocToken, declared: Written },
+    Return {
+        word: DocToken,
+        declared: Written,
+    },
     /// `@var`
     Var {
         word: DocToken,
@@ -44,7 +47,10 @@ pub enum TagForm {
         bound: Option<Written>,
     },
     /// `@extends`, `@implements`, `@use`
-    Inherit { word: DocToken, declared: Written },
+    Inherit {
+        word: DocToken,
+        declared: Written,
+    },
 }
 
 /// A parameter of a method.

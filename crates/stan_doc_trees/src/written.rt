@@ -54,7 +54,10 @@ pub enum Atom {
         comma: bool,
     },
     /// `int<least, greatest>`: an integer each, or `min` and `max`.
-    Range { least: DocToken, greatest: DocToken },
+    Range {
+        least: DocToken,
+        greatest: DocToken,
+    },
     /// `callable(..)` or `Closure(..)`.
     Callable {
         name: DocToken,
@@ -64,7 +67,10 @@ pub enum Atom {
         result: Option<Boxed<Unary>>,
     },
     /// `class::constant`, or `*` in the constant's place.
-    Member { class: DocToken, constant: DocToken },
+    Member {
+        class: DocToken,
+        constant: DocToken,
+    },
     /// A name, with the types between `<` and `>`: none where these don't stand.
     Name {
         name: DocToken,
