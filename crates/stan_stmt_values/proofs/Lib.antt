@@ -1,0 +1,5 @@
+pub mod StatementLemmas
+pub mod ExpressionLemmas
+pub mod BodyLemmas
+pub mod Layers
+pub mod WordLemmas
