@@ -33,13 +33,6 @@ within_from a b most x y p le = record {
   rose = p.rose;
 }
 
-pub no_reads : (a x y : ℕ) → y ≡ x → ReadsAdded a a x y
-no_reads a x y e = record {
-  number = 0;
-  added = omega arith;
-  rose = omega arith;
-}
-
 pub length_begun : (read : List (List ℕ)) (file : List ℕ) → length (begun read file) ≡ length read + 1
 length_begun read file = length-append read (file ∷ []) ∙ omega arith
 

@@ -67,13 +67,6 @@ module _ (ts : List Token) (l : Leaves) (room levels : ℕ) where
   abbrev pub onwards : Bodies → List Site → Option Bodies
   onwards found xs = among xs >>= λ bs. Some (joined found bs)
 
-  all_found : (o : Option Bodies) → (o >>= λ bs. Some bs) ≡ o
-  all_found None = refl
-  all_found (Some bs) = refl
-
-  pub at_first : (xs : List Site) → onwards no_body xs ≡ among xs
-  at_first xs = all_found (among xs)
-
   pub at_last : (found : Bodies) (n : ℕ) (xs : List Site) → length xs ≤ n → onwards found (drop n xs) ≡ Some found
   at_last found n xs le = ap (onwards found) (drop_all n xs le) ∙ ap (λ z. let o : Bodies → Option Bodies = Some in o z) (joined_nothing found)
 

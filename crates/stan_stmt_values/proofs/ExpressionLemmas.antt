@@ -28,15 +28,7 @@ not_both : (a : Bool) (x : Tree × ℕ) → (if a && false then (let s : Tree ×
 not_both true x = refl
 not_both false x = refl
 
--- where too many levels are open none is read
-too_many : (ts : List Token) (levels : ℕ) (r : Read Tree) → most < levels → fitting ts levels r ≡ None
-too_many ts levels None lt = refl
-too_many ts levels (Some x) lt = rw (no_more (depth x.0 + levels) most (omega (arith, lt))) (not_both (is_end (kind_at ts x.1)) x)
-
 module _ (ts : List Token) (levels : ℕ) (p : Bool) (at : ℕ) where
-  pub none_above : most < levels → expression ts levels p at ≡ None
-  none_above lt = expression_is ts levels p at ∙ too_many ts levels (below ts (most - levels + 1) p loosest at) lt
-
   none_read : below ts (most - levels + 1) p loosest at ≡ None → expression ts levels p at ≡ None
   none_read h = expression_is ts levels p at ∙ ap (fitting ts levels) h
 
