@@ -1,9 +1,13 @@
 //! What is read of a row's project.
 
+ghost use Rattle.std.specs.Prelude.{map, string_bytes};
+ghost use Rattle.stan_config.specs.Folder.{AreHeld};
+ghost use Rattle.stan_model_config.specs.Faults.{is_among};
+
 use crate::project::{files, words_asked};
 use crate::shown::{config_text, stop_text};
 use stan_base::OutOfMemory;
-use stan_config::load;
+use stan_config::{Config, ConfigStop, Words, load};
 use stan_outside::{Fail, MemoryTree, Tree, are_files};
 use stan_rows::{Reading, number, parts};
 use std::alloc::Global;
@@ -53,6 +57,18 @@ fn chain(alloc: Global, includes: u32) -> Result<Vec<(String, Vec<u8>)>, OutOfMe
     Ok(files)
 }
 
+// By any folder, so that what `load` says is not said of the whole of this one.
+fn config_of<T: Tree>(
+    alloc: Global,
+    tree: &mut T,
+    listed: &[String],
+    words: &Words,
+) -> Result<Config, ConfigStop>
+    requires { T.tells tree.old → AreHeld (T.contents tree.old) (is_among (map string_bytes listed.now)) }
+{
+    load(alloc, tree, listed, words)
+}
+
 fn played(
     alloc: Global,
     files: Vec<(String, Vec<u8>)>,
@@ -69,7 +85,7 @@ fn played(
         Err(Fail::Failed) => return Ok(String::from_str(alloc, "not listed")?),
         Err(Fail::OutOfMemory) => return Err(OutOfMemory),
     };
-    let loaded = load(alloc, &mut tree, &listed, &asked.words);
+    let loaded = config_of(alloc, &mut tree, &listed, &asked.words);
     if counts {
         let reads = tree.reads();
         return Ok(format!(in alloc; "{reads}")?);

@@ -16,6 +16,6 @@ listed_held : (before after : Contents) (paths shown : List (List ℕ)) → afte
 listed_held before after paths shown same are lists path e =
     subst (λ contents. IsSome (finite.get contents path)) (sym same) (lists.each path (stands paths path (subst (λ s. list_any (λ other. bytes_eq other path) s ≡ true) are e)))
 
-pub load-loaded-requires : goal.load-loaded-requires
-load-loaded-requires c = λ told path e.
+pub config_of-loaded-requires : goal.config_of-loaded-requires
+config_of-loaded-requires c = λ told path e.
     listed_held _ _ (map string_bytes c.in-Ok.listed.items) (map string_bytes c.deref-2.result.now) c.in-Ok.ensures.contents (ap (map string_bytes) c.deref-2.ensures.value) c.in-Ok.ensures.paths path e
