@@ -1,4 +1,3 @@
-pub mod StatementLemmas
 pub mod ExpressionLemmas
 pub mod BodyLemmas
 pub mod Layers

@@ -12,11 +12,11 @@ ghost use Rattle.stan_stmt_values.specs.Held.{closed, shape_of, shapes_of};
 ghost use Rattle.stan_stmt_values.specs.Nests.{ReadsBelow};
 
 use crate::expressions::expression;
-use crate::statements::Statement;
 use sqlite_items::Items;
 use stan_model_grammar::token::{Token, TokenKind};
 use stan_places::stop::Stop;
 use stan_sites::{HeldBody, Site, sites_of};
+use stan_stmt_lists::blocks::Statement;
 use stan_stmt_parts::depth::{Depth, MOST};
 use stan_stmt_parts::parser::{Parser, Reader};
 use stan_stmt_trees::{ReadBody, Stmt, Value};
@@ -24,7 +24,7 @@ use stan_syntax::Expr;
 use std::alloc::Global;
 
 /// Statements up to a `}`, and the place behind it.
-#[tactic(auto, using(crate::proofs::StatementLemmas::statements_are), unfolding(stan_stmt_parts::specs::Gives::inside))]
+#[tactic(auto, using(stan_stmt_lists::proofs::ListLemmas::statements_are), unfolding(stan_stmt_parts::specs::Gives::inside))]
 fn inside<R: Reader>(
     parser: &Parser<'_, R>,
     depth: Depth,

@@ -4,5 +4,4 @@
 pub mod bodies;
 pub mod expressions;
 pub mod reader;
-pub mod statements;
 pub mod strict;
