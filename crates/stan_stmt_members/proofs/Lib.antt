@@ -1,0 +1,4 @@
+pub mod ParameterLemmas
+pub mod MethodLemmas
+pub mod FieldLemmas
+pub mod MemberLemmas
