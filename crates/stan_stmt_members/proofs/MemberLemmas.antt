@@ -26,7 +26,7 @@ member_is : (t : Token) (form : Member) → member_piece (roll-ClassMember (reco
 unfolding member_piece
 member_is t form = rw (class_member-made t form) refl
 
-words_are : (r : r.Rule) (ts : List Token) (f : Shape) → words r ts f ≡ items (map (of_word r) ts) f
+pub words_are : (r : r.Rule) (ts : List Token) (f : Shape) → words r ts f ≡ items (map (of_word r) ts) f
 words_are r [] f = refl
 words_are r (t ∷ ts) f = ap (standing (of_word r t)) (words_are r ts f)
 

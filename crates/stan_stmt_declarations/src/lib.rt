@@ -1,0 +1,5 @@
+//! Declarations of functions, classes, interfaces and traits.
+#![tactic(auto)]
+
+pub mod classes;
+pub mod functions;
