@@ -1,5 +1,5 @@
 -- What is asked of the productions, and computed: no lemma about one production stands here.
-use Rattle.std.proofs.Common.{◌≡◌, Bool, true, false, List, [], ◌∷◌, ◌++◌, refl, subst, ◌&&◌, inl, inr}
+use Rattle.std.proofs.Common.{◌≡◌, Bool, true, false, List, [], ◌∷◌, ◌++◌, refl, subst, ◌&&◌, ◌⊎◌, inl, inr}
 use Rattle.std.specs.Prelude.{not, ◌||◌, Option, Some, None}
 use Rattle.stan_model_grammar.specs.declared.token.TokenKind.{TokenKind}
 use Rattle.stan_model_grammar.specs.declared.token.TokenKind.TheVariants as k
@@ -8,7 +8,7 @@ use Rattle.stan_model_statements.specs.Kinds.{same_kind, has}
 use Rattle.stan_model_statements.specs.Symbols.{Sort, Top, UseItem, FurtherUseItem, GroupItem, FurtherGroupItem, GroupEnd, Statement, Expressions, ElseIfPart, ElsePart, Case, Handlers, FurtherArgument, Closing, Declared, FurtherDeclared, Parameter, FurtherParameter, ReturnType, WrittenType, InterfaceExtends, Implements, Names, Modifier, Modified, PropertyType, AdaptedTrait, AdaptationRest, Need, One, May, Many, Again, Symbol, Mark, Word, Checked, Expression, Part, lacks, rest}
 use Rattle.stan_model_statements.specs.Rules.{Rule, namespace_statement, symbols, sort_of}
 use Rattle.stan_stmt_rules.specs.Ahead.{expression_kinds, statement_kinds, begins, owner, dangles, leads_on}
-use Rattle.stan_stmt_law.proofs.Words.{implies, and_split, and_both, implied, implying, truth, not_false, subset, apart, subset_has, clash}
+use Rattle.stan_stmt_law.proofs.Words.{implies, and_split, and_both, or_split, implied, implying, truth, not_false, subset, apart, subset_has, clash}
 
 -- ---- the tables
 
@@ -297,3 +297,52 @@ fine_within n r xs h =
 
 pub leads_of : (r : Rule) → leads (begins (sort_of r)) (symbols r) ≡ true
 leads_of r = (fine_rule r).led
+
+-- ---- what ends open
+
+all_append : (xs ys : List Symbol) → all_lack (xs ++ ys) ≡ true → (all_lack xs ≡ true) × (all_lack ys ≡ true)
+all_append [] ys h = (refl, h)
+all_append (Part n s ∷ xs) ys h =
+    let split = and_split (lacks n) (all_lack (xs ++ ys)) h in
+    let more = all_append xs ys split.1 in
+    (and_both (lacks n) (all_lack xs) split.0 more.0, more.1)
+all_append (Mark kind ∷ xs) ys h = absurd cc
+all_append (Word ws ∷ xs) ys h = absurd cc
+all_append (Checked c ∷ xs) ys h = absurd cc
+all_append (Expression p ∷ xs) ys h = absurd cc
+
+ends_append : (xs ys : List Symbol) → ends_open (xs ++ ys) ≡ true → ((ends_open xs ≡ true) × (all_lack ys ≡ true)) ⊎ (ends_open ys ≡ true)
+ends_append [] ys h = inr h
+ends_append (x ∷ xs) ys h = elim (or_split (open_end x && all_lack (xs ++ ys)) (ends_open (xs ++ ys)) h) [
+  | inl here ↦
+      let split = and_split (open_end x) (all_lack (xs ++ ys)) here in
+      let lacking = all_append xs ys split.1 in
+      inl (or_left (open_end x && all_lack xs) (ends_open xs) (and_both (open_end x) (all_lack xs) split.0 lacking.0), lacking.1)
+  | inr later ↦ elim (ends_append xs ys later) [ inl w ↦ inl (or_right (open_end x && all_lack xs) (ends_open xs) w.0, w.1) | inr w ↦ inr w ]
+]
+
+ends_tail : (n : Need) (s : Sort) (xs : List Symbol) → tails s ≡ true → all_lack (rest n s xs) ≡ true → ends_open (Part n s ∷ xs) ≡ true
+ends_tail One s xs t l = or_left (tails s && all_lack xs) (ends_open xs) (and_both (tails s) (all_lack xs) t l)
+ends_tail May s xs t l = or_left ((tails s || dangles s) && all_lack xs) (ends_open xs) (and_both (tails s || dangles s) (all_lack xs) (or_left (tails s) (dangles s) t) l)
+ends_tail Many s xs t l = or_left ((tails s || dangles s) && all_lack xs) (ends_open xs) (and_both (tails s || dangles s) (all_lack xs) (or_left (tails s) (dangles s) t) l)
+ends_tail Again s xs t l = or_left ((tails s || dangles s) && all_lack xs) (ends_open xs) (and_both (tails s || dangles s) (all_lack xs) (or_left (tails s) (dangles s) t) l)
+
+ends_rest : (n : Need) (s : Sort) (xs : List Symbol) → ends_open (rest n s xs) ≡ true → ends_open (Part n s ∷ xs) ≡ true
+ends_rest One s xs h = or_right (tails s && all_lack xs) (ends_open xs) h
+ends_rest May s xs h = or_right ((tails s || dangles s) && all_lack xs) (ends_open xs) h
+ends_rest Many s xs h = h
+ends_rest Again s xs h = h
+
+-- A production in place of its part ends open where its part does.
+pub ends_within : (n : Need) (r : Rule) (xs : List Symbol) → ends_open (symbols r ++ rest n (sort_of r) xs) ≡ true → ends_open (Part n (sort_of r) ∷ xs) ≡ true
+ends_within n r xs h = elim (ends_append (symbols r) (rest n (sort_of r) xs) h) [
+  | inl w ↦ ends_tail n (sort_of r) xs (implied (ends_open (symbols r)) (tails (sort_of r)) (fine_rule r).open_ended w.0) w.1
+  | inr w ↦ ends_rest n (sort_of r) xs w
+]
+
+-- a part that lacks, and that such a token could begin
+pub dangling_open : (n : Need) (s : Sort) → lacks n ≡ true → dangles s ≡ true → open_end (Part n s) ≡ true
+dangling_open One s l d = absurd cc
+dangling_open May s l d = or_right (tails s) (dangles s) d
+dangling_open Many s l d = or_right (tails s) (dangles s) d
+dangling_open Again s l d = or_right (tails s) (dangles s) d

@@ -28,7 +28,7 @@ use Rattle.stan_stmt_law.proofs.Runs.{first_kind, takes_some}
 use Rattle.stan_stmt_law.proofs.Tables.{quiet_owner}
 use Rattle.stan_stmt_law.proofs.Words.{see, truth}
 
-never : (xs ys : List ℕ) → More xs ys → More ys xs → ⊥
+pub never : (xs ys : List ℕ) → More xs ys → More ys xs → ⊥
 never [] ys m n = m
 never (x ∷ xs) [] m n = m
 never (x ∷ xs) (y ∷ ys) (inl a) (inl b) = omega (arith, a, b)
@@ -80,23 +80,23 @@ module _ (ts : List Token) (named : Token → Bool) where
   abbrev Tops : List Forest → ℕ → ℕ → Type 0
   Tops = ReadsTops ts named
 
-  one_greedy : (f g : Forest) (at to end : ℕ) → Greedy f at to → Greedy g at end → (f ≡ g) × (to ≡ end)
+  pub one_greedy : (f g : Forest) (at to end : ℕ) → Greedy f at to → Greedy g at end → (f ≡ g) × (to ≡ end)
   one_greedy = one_run ts named (Ends ts) (Picked ts) (behind ts) (are_expressions ts) top
 
-  spelled : (f : Forest) (at to : ℕ) → Greedy f at to → Spells ts named top f at to
+  pub spelled : (f : Forest) (at to : ℕ) → Greedy f at to → Spells ts named top f at to
   spelled = loose ts named (Ends ts) (Picked ts) (behind ts) (are_expressions ts) top
 
   pub greedy_is_tree : (f : Forest) (at to : ℕ) → Ended to → Greedy f at to → IsForestOf ts named top f at to
-  greedy_is_tree f at to e h = (spelled f at to h, greedy_takes_most ts named (Ends ts) (Picked ts) (behind ts) (are_expressions ts) top f at to refl refl e h)
+  greedy_is_tree f at to e h = (spelled f at to h, greedy_takes_most ts named (Ends ts) (Picked ts) (behind ts) (are_expressions ts) top f at to refl refl (λ o. e) h)
 
   pub some_tree : (f : Forest) (at to : ℕ) → Ended to → Spells ts named top f at to → (g : Forest) × IsForestOf ts named top g at to
-  some_tree f at to e h = let w = some_greedy ts named (Ends ts) (Picked ts) (behind ts) (are_expressions ts) top f at to refl e h in (w.0, greedy_is_tree w.0 at to e w.1)
+  some_tree f at to e h = let w = some_greedy ts named (Ends ts) (Picked ts) (behind ts) (are_expressions ts) top f at to refl (λ o. e) h in (w.0, greedy_is_tree w.0 at to e w.1)
 
   pub one_tree : (f g : Forest) (at to : ℕ) → IsForestOf ts named top f at to → IsForestOf ts named top g at to → f ≡ g
   one_tree f g at to h i = elim (h.1 g i.0) [ inl same ↦ same | inr m ↦ elim (i.1 f h.0) [ inl same ↦ sym same | inr n ↦ absurd (never (takes top f) (takes top g) m n) ] ]
 
   pub not_a_front : (f g : Forest) (at to end : ℕ) → Spells ts named top f at to → Spells ts named top g at end → to < end → Ended to → ⊥
-  not_a_front f g at to end h i lt e = no_front ts named (Ends ts) (Picked ts) (behind ts) (are_expressions ts) top f g at to end refl h i lt e
+  not_a_front f g at to end h i lt e = no_front ts named (Ends ts) (Picked ts) (behind ts) (are_expressions ts) top f g at to end refl h i lt (λ o. e)
 
   pub tree_there : (f : Forest) (at to : ℕ) → Spells ts named top f at to → IsFalse (goes_on (kind_at ts to)) → (g : Forest) × IsForestOf ts named top g at to
   tree_there f at to h e = some_tree f at to (unowned_is (kind_at ts to) e) h
@@ -104,16 +104,16 @@ module _ (ts : List Token) (named : Token → Bool) where
   pub front_goes_on : (f g : Forest) (at to end : ℕ) → Spells ts named top f at to → Spells ts named top g at end → to < end → IsTrue (goes_on (kind_at ts to))
   front_goes_on f g at to end h i lt = elim (truth (goes_on (kind_at ts to))) [ inl on ↦ on | inr off ↦ absurd (not_a_front f g at to end h i lt (unowned_is (kind_at ts to) off)) ]
 
-  begins_quiet : (f : Forest) (at to : ℕ) → Spells ts named top f at to → Ended at
+  pub begins_quiet : (f : Forest) (at to : ℕ) → Spells ts named top f at to → Ended at
   begins_quiet f at to h = quiet_owner (begins Top) (kind_at ts at) refl (first_kind ts named (Ends ts) Any (are_expressions ts).sized (begun ts named (Ends ts) (Picked ts) (behind ts) (are_expressions ts)) (begins Top) top f at to begins_itself h)
 
-  greedy_rises : (f : Forest) (at to : ℕ) → Greedy f at to → at < to
+  pub greedy_rises : (f : Forest) (at to : ℕ) → Greedy f at to → at < to
   greedy_rises f at to h = takes_some ts named (Picked ts) (Next ts (behind ts)) (y_sized ts named (Ends ts) (Picked ts) (behind ts) (are_expressions ts)) (y_begun ts named (Ends ts) (Picked ts) (behind ts) (are_expressions ts)) (begins Top) top f at to begins_itself h
 
   -- the tree of the tokens is the greedy one
-  top_greedy : (f : Forest) (at to : ℕ) → Ended to → IsForestOf ts named top f at to → Greedy f at to
+  pub top_greedy : (f : Forest) (at to : ℕ) → Ended to → IsForestOf ts named top f at to → Greedy f at to
   top_greedy f at to e h =
-      let w = some_greedy ts named (Ends ts) (Picked ts) (behind ts) (are_expressions ts) top f at to refl e h.0 in
+      let w = some_greedy ts named (Ends ts) (Picked ts) (behind ts) (are_expressions ts) top f at to refl (λ o. e) h.0 in
       subst (λ z. Greedy z at to) (one_tree w.0 f at to (greedy_is_tree w.0 at to e w.1) h) w.1
 
   -- a front that no token goes on with is read as it stands
@@ -159,7 +159,7 @@ module _ (ts : List Token) (named : Token → Bool) where
       ap₂ (λ x xs. x ∷ xs) first.0 (same_tops fs gs h.0 to h.3 (subst (λ b. GreedyTops gs b to) (sym first.1) i.3))
 
   -- the whole of the tokens is read in one way
-  end_quiet : Ended (length ts)
+  pub end_quiet : Ended (length ts)
   end_quiet = ap owner (nothing_past ts (length ts) (omega arith))
 
   pub one_file : (fs gs : List Forest) → Tops fs 0 (length ts) → Tops gs 0 (length ts) → fs ≡ gs

@@ -16,7 +16,7 @@ use Rattle.stan_model_grammar.specs.Strata.{loosest}
 use Rattle.stan_model_grammar.specs.Takes.{size as tree_size, takes as tree_takes, More}
 use Rattle.stan_model_statements.specs.Takes.{size, repeated_size, takes}
 use Rattle.stan_stmt_law.proofs.Words.{implies, and_split, or_split, apart, apart_has, subset_has, and_both, implied, truth, clash, some_is, see, not_false, one_token, stands_kind}
-use Rattle.stan_stmt_law.proofs.Checks.{closed, goes, tails, no_sort, excludes, fine, shuts, head_ok, mild, fine_split, fine_within, true_not, owned, owned_by, quiet, open_end, or_right}
+use Rattle.stan_stmt_law.proofs.Checks.{closed, goes, tails, no_sort, excludes, fine, shuts, head_ok, mild, all_lack, ends_open, fine_split, fine_within, ends_within, dangling_open, true_not, owned, owned_by, quiet, open_end, or_left, or_right}
 use Rattle.stan_stmt_law.proofs.Tables.{starts_has, picked_begins, picked_sort, quiet_owner, quiet_picked, dangling_owner, excluded}
 use Rattle.stan_stmt_law.proofs.Runs.{join, inv_nil, inv_mark, inv_word, inv_checked, inv_expr, inv_part, append, split, cut, AreExpressions, taken, rises, rule_begins, rule_takes}
 use Rattle.stan_stmt_law.proofs.Places.{tail, behind_items, Before, before_self, before_chain, before_tail, before_once, before_drop, places, head_place, fronts, end_is}
@@ -111,6 +111,19 @@ module _ (ts : List Token) (named : Token → Bool) (X Y : Bool → Tree → ℕ
   abbrev pub Ended : ℕ → Type 0
   Ended to = owner (kind_at ts to) ≡ None
 
+  -- Where symbols may end with a part that lacks and that a token could go on with, none follows.
+  abbrev pub Settled : List Symbol → ℕ → Type 0
+  Settled xs to = ends_open xs ≡ true → Ended to
+
+  settled_behind : (x : Symbol) (xs : List Symbol) (to : ℕ) → Settled (x ∷ xs) to → Settled xs to
+  settled_behind x xs to e o = e (or_right (open_end x && all_lack xs) (ends_open xs) o)
+
+  settled_within : (n : Need) (r : Rule) (s : Sort) (xs : List Symbol) (to : ℕ) → sort_of r ≡ s → Settled (Part n s ∷ xs) to → Settled (symbols r ++ rest n s xs) to
+  settled_within n r s xs to is e o = e (subst (λ z. ends_open (Part n z ∷ xs) ≡ true) is (ends_within n r xs (subst (λ z. ends_open (symbols r ++ rest n z xs) ≡ true) (sym is) o)))
+
+  settled_lack : (n : Need) (s : Sort) (xs : List Symbol) (to : ℕ) → lacks n ≡ true → dangles s ≡ true → Settled (Part n s ∷ xs) to → all_lack xs ≡ true → Ended to
+  settled_lack n s xs to l d e a = e (or_left (open_end (Part n s) && all_lack xs) (ends_open xs) (and_both (open_end (Part n s)) (all_lack xs) (dangling_open n s l d) a))
+
   abbrev TakenOut : Rule → List Symbol → Forest → ℕ → ℕ → Type 0
   TakenOut q xs f at to = (ps g : Forest) × (b : ℕ) × L (symbols q) ps at b × L xs g b to × Before (places_of xs f at) (places_of xs g b) × (count ps + count g + 2 ≤ count f)
 
@@ -195,8 +208,8 @@ module _ (ts : List Token) (named : Token → Bool) (X Y : Bool → Tree → ℕ
   owner_here q r Again s xs at o h p = (refl, dangling_here q r s at o (lacking_head Again s xs refl h).0 p)
 
   -- The part is taken out of what follows, unless nothing follows.
-  take_out : (q : Rule) (xs : List Symbol) (f : Forest) (at to : ℕ) → owner (kind_at ts at) ≡ Some q → fine [] xs ≡ true → head_ok xs ≡ true → L xs f at to → (to ≡ at) ⊎ TakenOut q xs f at to
-  take_out q [] nil at to o fi h r = inl (sym r)
+  take_out : (q : Rule) (xs : List Symbol) (f : Forest) (at to : ℕ) → owner (kind_at ts at) ≡ Some q → fine [] xs ≡ true → head_ok xs ≡ true → L xs f at to → ((to ≡ at) × (all_lack xs ≡ true)) ⊎ TakenOut q xs f at to
+  take_out q [] nil at to o fi h r = inl (sym r, refl)
   take_out q (Mark kind ∷ xs) (mark f) at to o fi h r = absurd (let w = unowned_is kind (not_false (owned kind) h) in let v : owner (kind_at ts at) ≡ owner kind = ap owner r.0 in cc)
   take_out q (Word ks ∷ xs) (word t f) at to o fi h r = absurd (let w = quiet_owner ks t.kind h r.1 in let v : owner (kind_at ts at) ≡ owner t.kind = ap owner (stands_kind ts at t r.0) in cc)
   take_out q (Checked c ∷ xs) (word t f) at to o fi h r = absurd (let w = quiet_owner (checked_kinds c) t.kind h r.1 in let v : owner (kind_at ts at) ≡ owner t.kind = ap owner (stands_kind ts at t r.0) in cc)
@@ -204,7 +217,7 @@ module _ (ts : List Token) (named : Token → Bool) (X Y : Bool → Tree → ℕ
   take_out q (Part n s ∷ xs) (none f) at to o fi h r =
       let split = fine_split [] (Part n s) xs fi in
       elim (take_out q xs f at to o split.others (lacking_head n s xs r.0 h).1 r.2) [
-        | inl e ↦ inl e
+        | inl e ↦ inl (e.0, and_both (lacks n) (all_lack xs) r.0 e.1)
         | inr out ↦ inr (out.0, none out.1, out.2, out.3, (r.0, tt, out.4), (rises ts named X Any exs.sized begun (symbols q) out.0 at out.2 out.3, out.5), omega (arith, out.6))
       ]
   take_out q (Part n s ∷ xs) (some p ps f) at to o fi h r =
@@ -212,8 +225,8 @@ module _ (ts : List Token) (named : Token → Bool) (X Y : Bool → Tree → ℕ
       inr (took q p here.1 n s xs ps f at r.0 to here.0 r.3 r.4)
   take_out q xs f at to o fi h r = absurd r
 
-  taken_out : (q : Rule) (xs : List Symbol) (f : Forest) (at to : ℕ) → owner (kind_at ts at) ≡ Some q → Ended to → (to ≡ at) ⊎ TakenOut q xs f at to → TakenOut q xs f at to
-  taken_out q xs f at to o e (inl same) = absurd (let w : owner (kind_at ts at) ≡ None = subst Ended same e in cc)
+  taken_out : (q : Rule) (xs : List Symbol) (f : Forest) (at to : ℕ) → owner (kind_at ts at) ≡ Some q → (all_lack xs ≡ true → Ended to) → ((to ≡ at) × (all_lack xs ≡ true)) ⊎ TakenOut q xs f at to → TakenOut q xs f at to
+  taken_out q xs f at to o e (inl same) = absurd (let w : owner (kind_at ts at) ≡ None = subst Ended same.0 (e same.1) in cc)
   taken_out q xs f at to o e (inr out) = out
 
   -- what follows does not begin with a token of these kinds
@@ -395,29 +408,29 @@ module _ (ts : List Token) (named : Token → Bool) (X Y : Bool → Tree → ℕ
   lacked n s xs f at to l p (inl g) = inl (l, p, g)
   lacked n s xs f at to l p (inr w) = inr (none w.0, (l, p, w.1), (omega arith, w.2), w.3)
 
-  pub law : (n : ℕ) (xs : List Symbol) (f : Forest) (at to : ℕ) → count f < n → fine [] xs ≡ true → Ended to → L xs f at to → Lawful xs f at to
+  pub law : (n : ℕ) (xs : List Symbol) (f : Forest) (at to : ℕ) → count f < n → fine [] xs ≡ true → Settled xs to → L xs f at to → Lawful xs f at to
   law zero xs f at to lt fi e h = absurd (omega (arith, lt))
   law (suc n) [] nil at to lt fi e h = inl h
-  law (suc n) (Mark kind ∷ xs) (mark f) at to lt fi e h = marked kind xs f at to h.0 (law n xs f (at + 1) to (omega (arith, lt)) (fine_split [] (Mark kind) xs fi).others e h.1)
-  law (suc n) (Word ks ∷ xs) (word t f) at to lt fi e h = worded ks xs t f at to h.0 h.1 (law n xs f (at + 1) to (omega (arith, lt)) (fine_split [] (Word ks) xs fi).others e h.2)
-  law (suc n) (Checked c ∷ xs) (word t f) at to lt fi e h = checked c xs t f at to h.0 h.1 h.2 (law n xs f (at + 1) to (omega (arith, lt)) (fine_split [] (Checked c) xs fi).others e h.3)
-  law (suc n) (Expression p ∷ xs) (expr d f) at to lt fi e h = spelled p xs d f at h.0 to h.1 (law n xs f h.0 to (omega (arith, lt)) (fine_split [] (Expression p) xs fi).others e h.2)
+  law (suc n) (Mark kind ∷ xs) (mark f) at to lt fi e h = marked kind xs f at to h.0 (law n xs f (at + 1) to (omega (arith, lt)) (fine_split [] (Mark kind) xs fi).others (settled_behind (Mark kind) xs to e) h.1)
+  law (suc n) (Word ks ∷ xs) (word t f) at to lt fi e h = worded ks xs t f at to h.0 h.1 (law n xs f (at + 1) to (omega (arith, lt)) (fine_split [] (Word ks) xs fi).others (settled_behind (Word ks) xs to e) h.2)
+  law (suc n) (Checked c ∷ xs) (word t f) at to lt fi e h = checked c xs t f at to h.0 h.1 h.2 (law n xs f (at + 1) to (omega (arith, lt)) (fine_split [] (Checked c) xs fi).others (settled_behind (Checked c) xs to e) h.3)
+  law (suc n) (Expression p ∷ xs) (expr d f) at to lt fi e h = spelled p xs d f at h.0 to h.1 (law n xs f h.0 to (omega (arith, lt)) (fine_split [] (Expression p) xs fi).others (settled_behind (Expression p) xs to e) h.2)
   law (suc n) (Part m s ∷ xs) (some r ps f) at to lt fi e h =
       let next : Next ts behind s at (Some r) = subst (λ z. Next ts behind z at (Some r)) h.1 (decided ts named X behind exs.starting exs.ending exs.sized begun r ps at h.0 h.3) in
       within r m s xs ps f at h.0 to h.1 next h.3 h.4
       (law n (symbols r ++ rest m s xs) (join ps f) at to (omega (arith, lt, count_join ps f))
-      (subst (λ z. fine [] (symbols r ++ rest m z xs) ≡ true) h.1 (fine_within m r xs (subst (λ z. fine [] (Part m z ∷ xs) ≡ true) (sym h.1) fi))) e
+      (subst (λ z. fine [] (symbols r ++ rest m z xs) ≡ true) h.1 (fine_within m r xs (subst (λ z. fine [] (Part m z ∷ xs) ≡ true) (sym h.1) fi))) (settled_within m r s xs to h.1 e)
       (append ts named X Any (symbols r) (rest m s xs) ps f at h.0 to h.3 h.4))
   law (suc n) (Part m s ∷ xs) (none f) at to lt fi e h = elim (see (pick s (kind_at ts at) (kind_at ts (at + 1)) (kind_at ts (at + 2)) (behind at))) [
-    | inl p ↦ lacked m s xs f at to h.0 p (law n xs f at to (omega (arith, lt)) (fine_split [] (Part m s) xs fi).others e h.2)
+    | inl p ↦ lacked m s xs f at to h.0 p (law n xs f at to (omega (arith, lt)) (fine_split [] (Part m s) xs fi).others (settled_behind (Part m s) xs to e) h.2)
     | inr q ↦
         let is = picked_sort s (kind_at ts at) (kind_at ts (at + 1)) (kind_at ts (at + 2)) (behind at) q.0 q.1 in
         let parts = fine_split [] (Part m s) xs fi in
         let o = owning m s xs f at to q.0 h.0 parts.shut h.2 q.1 in
-        let out = taken_out q.0 xs f at to o.1 e (take_out q.0 xs f at to o.1 parts.others (open_head m s xs h.0 o.0 parts.head) h.2) in
+        let out = taken_out q.0 xs f at to o.1 (settled_lack m s xs to h.0 o.0 e) (take_out q.0 xs f at to o.1 parts.others (open_head m s xs h.0 o.0 parts.head) h.2) in
         moved q.0 m s xs f out.0 out.1 at out.2 to h.0 is q.1 out.3 out.4 out.5
         (law n (symbols q.0 ++ rest m s xs) (join out.0 (lacking m out.1)) at to (omega (arith, lt, count_join out.0 (lacking m out.1), lacking_small m out.1, out.6))
-        (subst (λ z. fine [] (symbols q.0 ++ rest m z xs) ≡ true) is (fine_within m q.0 xs (subst (λ z. fine [] (Part m z ∷ xs) ≡ true) (sym is) fi))) e
+        (subst (λ z. fine [] (symbols q.0 ++ rest m z xs) ≡ true) is (fine_within m q.0 xs (subst (λ z. fine [] (Part m z ∷ xs) ≡ true) (sym is) fi))) (settled_within m q.0 s xs to is e)
         (append ts named X Any (symbols q.0) (rest m s xs) out.0 (lacking m out.1) at out.2 to out.3 (lacking_runs m s xs out.1 out.2 to h.0 out.4)))
   ]
   law (suc n) xs f at to lt fi e h = absurd h
@@ -434,12 +447,12 @@ module _ (ts : List Token) (named : Token → Bool) (X Y : Bool → Tree → ℕ
   loose (Part n s ∷ xs) (some r ps f) at to h = (h.0, h.1, tt, loose (symbols r) ps at h.0 h.3, loose (rest n s xs) f h.0 to h.4)
   loose xs f at to h = absurd h
 
-  -- Where no token follows that goes on, any tree shows that the tokens have a greedy one,
-  pub some_greedy : (xs : List Symbol) (f : Forest) (at to : ℕ) → fine [] xs ≡ true → Ended to → L xs f at to → (g : Forest) × G xs g at to
+  -- Where no token follows that goes on, or none could, any tree shows that the tokens have a greedy one,
+  pub some_greedy : (xs : List Symbol) (f : Forest) (at to : ℕ) → fine [] xs ≡ true → Settled xs to → L xs f at to → (g : Forest) × G xs g at to
   some_greedy xs f at to fi e h = let r = reached xs f at to (law (suc (count f)) xs f at to (omega arith) fi e h) in (r.0, r.1)
 
   -- and the greedy one is the tree of the tokens.
-  pub greedy_takes_most : (xs : List Symbol) (f : Forest) (at to : ℕ) → plain xs ≡ true → fine [] xs ≡ true → Ended to → G xs f at to → (g : Forest) → L xs g at to → (f ≡ g) ⊎ More (takes xs f) (takes xs g)
+  pub greedy_takes_most : (xs : List Symbol) (f : Forest) (at to : ℕ) → plain xs ≡ true → fine [] xs ≡ true → Settled xs to → G xs f at to → (g : Forest) → L xs g at to → (f ≡ g) ⊎ More (takes xs f) (takes xs g)
   greedy_takes_most xs f at to pl fi e h g i = elim (law (suc (count g)) xs g at to (omega arith) fi e i) [
     | inl k ↦ inl (one_run xs f g at to to h k).0
     | inr w ↦ inr (subst (λ z. More (takes xs z) (takes xs g)) (one_run xs w.0 f at to to w.1 h).0 (exceeds_more xs w.0 g pl w.3))
@@ -486,7 +499,7 @@ module _ (ts : List Token) (named : Token → Bool) (X Y : Bool → Tree → ℕ
         let parts = fine_split [] (Part m s) xs fi in
         let o = owning m s xs g at end v.0 i.0 parts.shut i.2 v.6 in
         elim (take_out v.0 xs g at end o.1 parts.others (open_head m s xs i.0 o.0 parts.head) i.2) [
-          | inl e ↦ omega (arith, e, greedy_rises (Part m s ∷ xs) f at to h)
+          | inl e ↦ omega (arith, e.0, greedy_rises (Part m s ∷ xs) f at to h)
           | inr out ↦
               longest n (symbols v.0 ++ rest m s xs) (join v.1 v.2) (join out.0 (lacking m out.1)) at to end (omega (arith, lt, count_join out.0 (lacking m out.1), lacking_small m out.1, out.6))
               (subst (λ z. fine [] (symbols v.0 ++ rest m z xs) ≡ true) v.5 (fine_within m v.0 xs (subst (λ z. fine [] (Part m z ∷ xs) ≡ true) (sym v.5) fi)))
@@ -497,7 +510,7 @@ module _ (ts : List Token) (named : Token → Bool) (X Y : Bool → Tree → ℕ
   longest (suc n) xs f g at to end lt fi h i = absurd i
 
   -- What is spelled is no proper front of what is spelled from the same place, unless a token follows that goes on with it.
-  pub no_front : (xs : List Symbol) (f g : Forest) (at to end : ℕ) → fine [] xs ≡ true → L xs f at to → L xs g at end → to < end → Ended to → ⊥
+  pub no_front : (xs : List Symbol) (f g : Forest) (at to end : ℕ) → fine [] xs ≡ true → L xs f at to → L xs g at end → to < end → Settled xs to → ⊥
   no_front xs f g at to end fi h i lt e =
       let w = some_greedy xs f at to fi e h in
       omega (arith, lt, longest (suc (count g)) xs w.0 g at to end (omega arith) fi w.1 i)

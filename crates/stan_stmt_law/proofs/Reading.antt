@@ -111,28 +111,28 @@ pub rules_steady : (r : Rule) → steady (symbols r) ≡ true
 rules_steady namespace_statement = refl
 rules_steady r = refl
 
-steady_part : (n : Need) (s : Sort) (xs : List Symbol) → lacks n ≡ true → steady (Part n s ∷ xs) ≡ true → (waits s ≡ false) × (steady xs ≡ true)
+pub steady_part : (n : Need) (s : Sort) (xs : List Symbol) → lacks n ≡ true → steady (Part n s ∷ xs) ≡ true → (waits s ≡ false) × (steady xs ≡ true)
 steady_part One s xs l h = absurd (true≢false (sym l))
 steady_part May s xs l h = let both = and_split (not (waits s)) (steady xs) h in (not_false (waits s) both.0, both.1)
 steady_part Many s xs l h = let both = and_split (not (waits s)) (steady xs) h in (not_false (waits s) both.0, both.1)
 steady_part Again s xs l h = let both = and_split (not (waits s)) (steady xs) h in (not_false (waits s) both.0, both.1)
 
-steady_others : (n : Need) (s : Sort) (xs : List Symbol) → steady (Part n s ∷ xs) ≡ true → steady xs ≡ true
+pub steady_others : (n : Need) (s : Sort) (xs : List Symbol) → steady (Part n s ∷ xs) ≡ true → steady xs ≡ true
 steady_others One s xs h = h
 steady_others May s xs h = (steady_part May s xs refl h).1
 steady_others Many s xs h = (steady_part Many s xs refl h).1
 steady_others Again s xs h = (steady_part Again s xs refl h).1
 
 -- what does not wait asks for three tokens alone
-unasked : (s : Sort) (a b c d e : TokenKind) → waits s ≡ false → pick s a b c d ≡ pick s a b c e
+pub unasked : (s : Sort) (a b c d e : TokenKind) → waits s ≡ false → pick s a b c d ≡ pick s a b c e
 unasked ForEachTarget a b c d e h = absurd (true≢false h)
 unasked s a b c d e h = refl
 
-picked_at : (ts : List Token) (seen : ℕ → TokenKind) (s : Sort) (at : ℕ) (r : Option Rule) → pick_at ts seen s at ≡ r → pick s (kind_at ts at) (kind_at ts (at + 1)) (kind_at ts (at + 2)) (seen at) ≡ r
+pub picked_at : (ts : List Token) (seen : ℕ → TokenKind) (s : Sort) (at : ℕ) (r : Option Rule) → pick_at ts seen s at ≡ r → pick s (kind_at ts at) (kind_at ts (at + 1)) (kind_at ts (at + 2)) (seen at) ≡ r
 unfolding pick_at
 picked_at ts seen s at r h = h
 
-at_picked : (ts : List Token) (seen : ℕ → TokenKind) (s : Sort) (at : ℕ) (r : Option Rule) → pick s (kind_at ts at) (kind_at ts (at + 1)) (kind_at ts (at + 2)) (seen at) ≡ r → pick_at ts seen s at ≡ r
+pub at_picked : (ts : List Token) (seen : ℕ → TokenKind) (s : Sort) (at : ℕ) (r : Option Rule) → pick s (kind_at ts at) (kind_at ts (at + 1)) (kind_at ts (at + 2)) (seen at) ≡ r → pick_at ts seen s at ≡ r
 unfolding pick_at
 at_picked ts seen s at r h = h
 
@@ -146,20 +146,20 @@ module _ (ts : List Token) (named : Token → Bool) (X Y : Bool → Tree → ℕ
   Found levels xs at x = G xs x.0 at x.1 × (depth x.0 + levels ≤ most)
 
   -- the production that was read is the one that the tokens ask for
-  asked : (r : Rule) (ps : Forest) (at b : ℕ) → G (symbols r) ps at b → Next ts behind (sort_of r) at (Some r)
+  pub asked : (r : Rule) (ps : Forest) (at b : ℕ) → G (symbols r) ps at b → Next ts behind (sort_of r) at (Some r)
   asked r ps at b h = decided ts named X behind exs.starting exs.ending exs.sized (begun ts named X Y behind exs) r ps at b (loose ts named X Y behind exs (symbols r) ps at b h)
 
-  lacking_is : (levels : ℕ) (s : Sort) (at : ℕ) → waits s ≡ false → pick_at ts (seen levels) s at ≡ None → Next ts behind s at None
+  pub lacking_is : (levels : ℕ) (s : Sort) (at : ℕ) → waits s ≡ false → pick_at ts (seen levels) s at ≡ None → Next ts behind s at None
   lacking_is levels s at w h = unasked s (kind_at ts at) (kind_at ts (at + 1)) (kind_at ts (at + 2)) (behind at) (seen levels at) w ∙ picked_at ts (seen levels) s at None h
 
-  is_lacking : (levels : ℕ) (s : Sort) (at : ℕ) → waits s ≡ false → Next ts behind s at None → pick_at ts (seen levels) s at ≡ None
+  pub is_lacking : (levels : ℕ) (s : Sort) (at : ℕ) → waits s ≡ false → Next ts behind s at None → pick_at ts (seen levels) s at ≡ None
   is_lacking levels s at w h = at_picked ts (seen levels) s at None (unasked s (kind_at ts at) (kind_at ts (at + 1)) (kind_at ts (at + 2)) (seen levels at) (behind at) w ∙ h)
 
   -- with what stands before it
   grown : (levels : ℕ) (xs : List Symbol) (f : Forest) (at to : ℕ) (y : Forest × ℕ) → y.0 ≡ f → y.1 ≡ to → G xs f at to → depth f + levels ≤ most → Found levels xs at y
   grown levels xs f at to y e p g d = (subst (λ z. G xs z at y.1) (sym e) (subst (λ z. G xs f at z) (sym p) g), subst (λ z. depth z + levels ≤ most) (sym e) d)
 
-  from_again : (s : Sort) (xs : List Symbol) (f : Forest) (at to : ℕ) → G (Part Again s ∷ xs) f at to → G (Part Many s ∷ xs) f at to
+  pub from_again : (s : Sort) (xs : List Symbol) (f : Forest) (at to : ℕ) → G (Part Again s ∷ xs) f at to → G (Part Many s ∷ xs) f at to
   from_again s xs (none f) at to h = h
   from_again s xs (some r ps f) at to h = h
   from_again s xs f at to h = absurd h
@@ -278,7 +278,7 @@ module _ (ts : List Token) (named : Token → Bool) (X Y : Bool → Tree → ℕ
         let w = all_sound s at a.0 v.0 a.1 xs o.0.0 o.0.1 r in
         grown levels (Part Again s ∷ xs) (items a.0.0 o.0.0) at o.0.1 y o.2 o.3 w.0 w.1
 
-  read_guard : {A : Type 0} (c : Bool) (x : Option A) (y : A) → (if c then x else None) ≡ Some y → (c ≡ true) × (x ≡ Some y)
+  pub read_guard : {A : Type 0} (c : Bool) (x : Option A) (y : A) → (if c then x else None) ≡ Some y → (c ≡ true) × (x ≡ Some y)
   read_guard true x y h = (refl, h)
   read_guard false x y h = absurd cc
 
@@ -318,7 +318,7 @@ module _ (ts : List Token) (named : Token → Bool) (X Y : Bool → Tree → ℕ
     shallow_runs levels xs f at to h d = absurd h
 
     -- the production is found by the look-ahead of the parser too
-    found_there : (levels : ℕ) (s : Sort) (r : Rule) (ps : Forest) (at b : ℕ) → sort_of r ≡ s → G (symbols r) ps at b → depth ps + levels ≤ most → pick_at ts (seen levels) s at ≡ Some r
+    pub found_there : (levels : ℕ) (s : Sort) (r : Rule) (ps : Forest) (at b : ℕ) → sort_of r ≡ s → G (symbols r) ps at b → depth ps + levels ≤ most → pick_at ts (seen levels) s at ≡ Some r
     found_there levels s r ps at b e h d =
         let x : Next ts (seen levels) (sort_of r) at (Some r) = decided ts named (Shallow levels) (seen levels) (λ p t a c y. exs.starting p t a c (exs.plain p t a c y.0)) (λ p t a c y. seeing levels p a c t y.0 y.1)
         (λ p t a c y. y_sized ts named X Y behind exs p t a c y.0) (λ p t a c y. y_begun ts named X Y behind exs p t a c y.0) r ps at b (shallow_runs levels (symbols r) ps at b h d) in
@@ -378,7 +378,7 @@ module _ (ts : List Token) (named : Token → Bool) (X Y : Bool → Tree → ℕ
     read_one : (n levels : ℕ) (r : Rule) (ps : Forest) (at b : ℕ) → levels + weight r ≤ most → Complete n (levels + weight r) (symbols r) ps at b → read ts named expression seen (suc n) levels r at ≡ Some (ps, b)
     read_one n levels r ps at b le h = rw (le-leb (levels + weight r) most le) h
 
-    grows : (r : Rule) (ps : Forest) (at b : ℕ) → G (symbols r) ps at b → at < b
+    pub grows : (r : Rule) (ps : Forest) (at b : ℕ) → G (symbols r) ps at b → at < b
     grows = rule_takes ts named Y (Next ts behind) (y_sized ts named X Y behind exs) (y_begun ts named X Y behind exs)
 
     first_turn : (n levels : ℕ) (s : Sort) (xs : List Symbol) (r : Rule) (ps f : Forest) (at b to : ℕ) → pick_at ts (seen levels) s at ≡ Some r → read ts named expression seen n levels r at ≡ Some (ps, b) → AllRead n levels (length ts) s xs f b to
