@@ -4,3 +4,7 @@ pub mod Sound
 pub mod Values
 pub mod Trees
 pub mod Rows
+pub mod Heights
+pub mod Complete
+pub mod Readings
+pub mod Fronts

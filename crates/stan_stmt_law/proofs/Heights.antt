@@ -71,7 +71,7 @@ pub weights : (r : Rule) → (rank_inside r + 1 ≤ 7 * weight r + rank (sort_of
 weights namespace_statement = (omega arith, omega arith)
 weights r = (omega arith, omega arith)
 
-rank_rest : (m : ℕ) (n : Need) (s : Sort) (xs : List Symbol) → within_rank m (Part n s ∷ xs) ≡ true → within_rank m (rest n s xs) ≡ true
+pub rank_rest : (m : ℕ) (n : Need) (s : Sort) (xs : List Symbol) → within_rank m (Part n s ∷ xs) ≡ true → within_rank m (rest n s xs) ≡ true
 rank_rest m One s xs h = (and_split (nat_le (rank s) m) (within_rank m xs) h).1
 rank_rest m May s xs h = (and_split (nat_le (rank s) m) (within_rank m xs) h).1
 rank_rest m Many s xs h = h
