@@ -1,14 +1,13 @@
 -- A shape whose productions are greedy, that holds first tokens and bodies as the tokens have them and is not too deep, is what the parser
 -- of parts reads.
-use Rattle.std.proofs.Common.{◌≡◌, ℕ, zero, suc, ◌+◌, ◌≤◌, ◌<◌, Bool, true, false, List, [], ◌∷◌, ◌++◌, length, Option, Some, None, refl, sym, ap, subst, ◌∙◌, arith, append-nil, append_assoc, true≢false, ◌&&◌}
-use Rattle.std.specs.Prelude.{not, max, nat_le}
+use Rattle.std.proofs.Common.{◌≡◌, ℕ, zero, suc, ◌+◌, ◌≤◌, ◌<◌, Bool, true, List, [], ◌∷◌, ◌++◌, length, Option, Some, None, refl, sym, ap, subst, ◌∙◌, arith, append-nil, append_assoc, true≢false}
+use Rattle.std.specs.Prelude.{not, max}
 use Rattle.std.proofs.lemmas.Bool.{le-leb}
 use Rattle.stan_model_grammar.specs.declared.token.Token.{Token}
 use Rattle.stan_model_grammar.specs.declared.token.TokenKind.{TokenKind}
 use Rattle.stan_model_grammar.specs.Depth.{depth as tree_depth}
 use Rattle.stan_model_grammar.specs.Sites.{sites, bodies_among}
 use Rattle.stan_model_grammar.specs.Strata.{kind_at}
-use Rattle.stan_model_grammar.specs.Takes.{size as tree_size}
 use Rattle.stan_model_grammar.specs.Trees.{Tree}
 use Rattle.stan_model_statements.specs.Forests.{Forest}
 use Rattle.stan_model_statements.specs.Grammar.{Runs}
@@ -16,10 +15,10 @@ use Rattle.stan_model_statements.specs.Rules.{Rule, symbols, sort_of, weight}
 use Rattle.stan_model_statements.specs.Symbols.{Sort, One, May, Many, Again, Symbol, Mark, Word, Checked, Expression, Part}
 use Rattle.stan_model_statements.specs.Takes.{size}
 use Rattle.stan_model_files.specs.Shapes.{Shape, nil, mark, word, expr, none, some, Bodies, forest, has_first, depth, bodies_depth, IsFirst, Holds, HoldBodies}
-use Rattle.stan_expr_rules.specs.Parse.{Read, ◌>>=◌}
+use Rattle.stan_expr_rules.specs.Parse.{Read}
 use Rattle.stan_stmt_rules.specs.Ahead.{pick_at, Next}
-use Rattle.stan_stmt_rules.specs.Parse.{after, word_at, checked_at, most}
-use Rattle.stan_stmt_parts.specs.Parse.{Piece, Putting, onto, standing, optional, items, first_at, pieced, one, may, many, all, run, read}
+use Rattle.stan_stmt_rules.specs.Parse.{most}
+use Rattle.stan_stmt_parts.specs.Parse.{Piece, Putting, items, first_at, one, may, many, all, run, read}
 use Rattle.stan_stmt_law.proofs.Inside.{is_end, stand, rules_stand, kind_within, token_within, inside, after_at}
 use Rattle.stan_stmt_law.proofs.Law.{y_sized, y_begun}
 use Rattle.stan_stmt_law.proofs.Reading.{word_there, checked_there, steady, rules_steady, steady_part, steady_others, is_lacking, found_there, grows}

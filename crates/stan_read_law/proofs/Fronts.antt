@@ -1,9 +1,9 @@
 -- Fronts in trees of files are read in a row, and what is read in a row up to where nothing more is read is the longest.
-use Rattle.std.proofs.Common.{◌≡◌, ℕ, ◌+◌, ◌≤◌, ◌<◌, Bool, List, length, Option, Some, refl, sym, ap, subst, ◌∙◌, ◌⊎◌, inl, inr, arith}
+use Rattle.std.proofs.Common.{◌≡◌, ℕ, ◌≤◌, Bool, List, length, Some, refl, sym, ap, subst, ◌∙◌, ◌⊎◌, inl, inr, arith}
 use Rattle.stan_model_grammar.specs.declared.token.Token.{Token}
 use Rattle.stan_model_statements.specs.Tops as tops
-use Rattle.stan_model_statements.specs.Trees.{Top, Tops, no_top, top}
-use Rattle.stan_model_files.specs.Files.{ReadsTop, ReadsTops, SpellsFile}
+use Rattle.stan_model_statements.specs.Trees.{Tops, no_top, top}
+use Rattle.stan_model_files.specs.Files.{SpellsFile}
 use Rattle.stan_model_files.specs.Put.{put_top}
 use Rattle.stan_model_files.specs.Shapes.{nil, forest}
 use Rattle.stan_stmt_rules.specs.Ahead.{Next}

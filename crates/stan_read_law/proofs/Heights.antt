@@ -1,12 +1,12 @@
 -- How deep productions nest, with those in the bodies of closures: no deeper than the levels that they open allow.
-use Rattle.std.proofs.Common.{◌≡◌, ℕ, ◌+◌, ◌-◌, ◌*◌, ◌≤◌, Bool, true, List, [], ◌∷◌, Option, refl, sym, subst, arith, ◌&&◌}
+use Rattle.std.proofs.Common.{◌≡◌, ℕ, ◌+◌, ◌*◌, ◌≤◌, Bool, true, List, [], ◌∷◌, refl, sym, subst, arith}
 use Rattle.std.specs.Prelude.{max, nat_le}
 use Rattle.std.proofs.lemmas.Bool.{leb-true}
 use Rattle.stan_model_grammar.specs.declared.token.Token.{Token}
 use Rattle.stan_model_grammar.specs.Sites.{HeldBody}
 use Rattle.stan_model_statements.specs.Grammar.{Spells}
-use Rattle.stan_model_statements.specs.Rules.{Rule, symbols, sort_of, weight}
-use Rattle.stan_model_statements.specs.Symbols.{Sort, Need, Symbol, Mark, Word, Checked, Expression, Part, rest}
+use Rattle.stan_model_statements.specs.Rules.{symbols, sort_of}
+use Rattle.stan_model_statements.specs.Symbols.{Symbol, Mark, Word, Checked, Expression, Part, rest}
 use Rattle.stan_model_statements.specs.Takes as plain
 use Rattle.stan_model_files.specs.Shapes.{Shape, nil, mark, word, expr, none, some, Bodies, no_body, body, forest, inside, depth, bodies_depth, HoldBodies, Holds}
 use Rattle.stan_stmt_law.proofs.Heights.{rank, within_rank, rank_inside, ranks, weights, rank_rest}

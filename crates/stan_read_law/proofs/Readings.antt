@@ -1,25 +1,24 @@
 -- Trees of files are read, where there is room enough.
-use Rattle.std.proofs.Common.{◌≡◌, ℕ, zero, suc, ◌+◌, ◌≤◌, ◌<◌, Bool, true, false, List, [], ◌∷◌, length, Option, Some, None, refl, sym, ap, subst, ◌∙◌, arith}
-use Rattle.std.specs.Prelude.{◌==◌, max, nat_le, if◌then◌else◌}
+use Rattle.std.proofs.Common.{◌≡◌, ℕ, zero, suc, ◌+◌, ◌≤◌, ◌<◌, Bool, List, [], ◌∷◌, length, Option, Some, refl, sym, ap, subst, ◌∙◌, arith}
 use Rattle.std.proofs.lemmas.Bool.{le-leb, eq-eqb}
 use Rattle.stan_model_grammar.specs.declared.token.Token.{Token}
 use Rattle.stan_model_grammar.specs.declared.token.TokenKind.TheVariants as k
 use Rattle.stan_model_grammar.specs.Sites.{HeldBody, sites, bodies_among}
 use Rattle.stan_model_statements.specs.Grammar.{Ends}
 use Rattle.stan_model_statements.specs.Forests.{Forest}
-use Rattle.stan_model_statements.specs.Symbols.{Sort, Top, Statement, Many, Mark, Part}
+use Rattle.stan_model_statements.specs.Symbols.{Top, Statement, Many, Mark, Part}
 use Rattle.stan_model_statements.specs.Takes.{IsForestOf}
 use Rattle.stan_model_statements.specs.Tops as tops
 use Rattle.stan_model_statements.specs.Trees as trees
 use Rattle.stan_model_files.specs.Files.{ReadsTop}
 use Rattle.stan_model_files.specs.Put.{put_top, first_of}
-use Rattle.stan_model_files.specs.Shapes.{Shape, nil, expr, forest, inside, Bodies, no_body, body, depth, bodies_depth, Holds, HoldBodies}
+use Rattle.stan_model_files.specs.Shapes.{Shape, nil, forest, inside, Bodies, no_body, body, depth, bodies_depth, Holds, HoldBodies}
 use Rattle.stan_expr_rules.specs.Parse.{Read}
 use Rattle.stan_stmt_rules.specs.Ahead.{Next}
 use Rattle.stan_stmt_rules.specs.Parse as parse
 use Rattle.stan_stmt_rules.specs.Parse.{most}
-use Rattle.stan_stmt_parts.specs.Parse.{Piece, Putting, piece_of, standing, read}
-use Rattle.stan_stmt_bodies.specs.Values.{block_at, ended, body_at, bodies_at, valued, value_at}
+use Rattle.stan_stmt_parts.specs.Parse.{Piece, piece_of, standing}
+use Rattle.stan_stmt_bodies.specs.Values.{block_at, ended, body_at, bodies_at, value_at}
 use Rattle.stan_stmt_bodies.proofs.Unrolled.{value_is}
 use Rattle.stan_file_law.proofs.Depths as depths
 use Rattle.stan_stmt_law.proofs.Expressions.{behind, are_expressions, sound, whole, seeing, picked_within, Picked}

@@ -1,5 +1,5 @@
 -- Declarations and statements in a row: what is read of them are trees of files, and all the tokens have one tree.
-use Rattle.std.proofs.Common.{◌≡◌, ℕ, ◌+◌, ◌≤◌, ◌<◌, Bool, List, length, Some, refl, sym, ap, ap₂, subst, ◌∙◌, ◌⊎◌, inl, inr, arith}
+use Rattle.std.proofs.Common.{◌≡◌, ℕ, ◌≤◌, ◌<◌, Bool, List, length, refl, sym, ap₂, subst, ◌⊎◌, inl, inr, arith}
 use Rattle.stan_model_grammar.specs.declared.token.Token.{Token}
 use Rattle.stan_model_grammar.specs.Strata.{kind_at}
 use Rattle.stan_model_statements.specs.Tops as tops

@@ -13,8 +13,8 @@ use Rattle.stan_model_statements.specs.Grammar.{Runs}
 use Rattle.stan_model_statements.specs.Rules.{Rule, symbols, sort_of, weight}
 use Rattle.stan_model_statements.specs.Symbols.{Sort, One, May, Many, Again, Symbol, Mark, Word, Checked, Expression, Part}
 use Rattle.stan_model_statements.specs.Takes.{size}
-use Rattle.stan_model_files.specs.Shapes.{Shape, nil, mark, word, expr, none, some, Bodies, forest, has_first, depth, bodies_depth, IsFirst, Holds, HoldBodies}
-use Rattle.stan_expr_rules.specs.Parse.{Read, ◌>>=◌}
+use Rattle.stan_model_files.specs.Shapes.{Shape, nil, mark, word, expr, Bodies, forest, has_first, depth, bodies_depth, IsFirst, Holds, HoldBodies}
+use Rattle.stan_expr_rules.specs.Parse.{Read}
 use Rattle.stan_stmt_rules.specs.Ahead.{pick_at, Next}
 use Rattle.stan_stmt_rules.specs.Parse.{after, word_at, checked_at, most}
 use Rattle.stan_stmt_parts.specs.Parse.{Piece, Putting, onto, standing, optional, items, first_at, pieced, one, may, many, all, run, read}
@@ -136,9 +136,11 @@ module _ (ts : List Token) (named : Token → Bool) (X Y : Bool → Tree → ℕ
     many_sound zero s found at y u h = absurd cc
     many_sound (suc n) s found at y u h = elim (see (pick_at ts (seen levels) s at)) [
       | inl absent ↦
-          let same = some_is (found, at) y (rw absent at h) in
-          ([], sym (ap (λ (p : List Piece × ℕ). p.0) same) ∙ sym (append-nil found),
-          subst (λ (z : List Piece × ℕ). Leads s at z.1 []) same (λ xs f to w. record { reads = (refl, lacking_is ts named X Y behind exs expression seen sound levels s at u absent, w.reads); held = w.held; flat = w.flat }))
+          let same = some_is (found, at) y (rw absent at h) in (
+            [],
+            sym (ap (λ (p : List Piece × ℕ). p.0) same) ∙ sym (append-nil found),
+            subst (λ (z : List Piece × ℕ). Leads s at z.1 []) same (λ xs f to w. record { reads = (refl, lacking_is ts named X Y behind exs expression seen sound levels s at u absent, w.reads); held = w.held; flat = w.flat }),
+          )
       | inr w ↦
           let a = bind_ok (pieced ts named value seen below levels w.0 at) _ y (rw w.1 at h) in
           let is = picked_piece s at w.0 a.0 w.1 a.1 in

@@ -1,8 +1,7 @@
 -- What is read of a declaration or a statement is a tree of files.
-use Rattle.std.proofs.Common.{◌≡◌, ℕ, ◌+◌, ◌≤◌, Bool, List, Some, refl, sym, ap, subst, arith}
+use Rattle.std.proofs.Common.{◌≡◌, ℕ, ◌+◌, ◌≤◌, Bool, List, Some, refl, subst, arith}
 use Rattle.stan_model_grammar.specs.declared.token.Token.{Token}
 use Rattle.stan_model_grammar.specs.Strata.{kind_at}
-use Rattle.stan_model_statements.specs.Depth.{top_depth}
 use Rattle.stan_model_statements.specs.Grammar.{Ends}
 use Rattle.stan_model_statements.specs.Symbols.{Top}
 use Rattle.stan_model_statements.specs.Tops as tops
@@ -10,7 +9,7 @@ use Rattle.stan_model_statements.specs.Trees as trees
 use Rattle.stan_model_statements.specs.Trees.{Namespace, NamespaceBlock, Use, UseGroup, Plain}
 use Rattle.stan_model_files.specs.Files.{ReadsTop}
 use Rattle.stan_model_files.specs.Put.{put_top}
-use Rattle.stan_model_files.specs.Shapes.{Shape, nil, forest, depth, Holds}
+use Rattle.stan_model_files.specs.Shapes.{nil, forest, depth, Holds}
 use Rattle.stan_stmt_rules.specs.Parse as parse
 use Rattle.stan_stmt_parts.specs.Parse.{Piece, piece_of, standing, read}
 use Rattle.stan_stmt_bodies.specs.Values.{value_at}

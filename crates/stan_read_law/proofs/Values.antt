@@ -1,14 +1,13 @@
 -- What is read of an expression holds the trees of the bodies of its closures.
-use Rattle.std.proofs.Common.{◌≡◌, ℕ, zero, suc, ◌+◌, ◌≤◌, ◌<◌, Bool, true, false, List, [], ◌∷◌, Option, Some, None, refl, sym, ap, subst, ◌∙◌, inl, inr, arith}
+use Rattle.std.proofs.Common.{◌≡◌, ℕ, zero, suc, ◌+◌, ◌≤◌, ◌<◌, Bool, true, false, List, [], ◌∷◌, Option, Some, None, refl, sym, ap, subst, ◌∙◌, arith}
 use Rattle.std.specs.Prelude.{◌==◌, nat_le, if◌then◌else◌}
 use Rattle.std.proofs.lemmas.Bool.{leb-true, eqb-true}
 use Rattle.stan_model_grammar.specs.declared.token.Token.{Token}
 use Rattle.stan_model_grammar.specs.Sites.{HeldBody, sites, bodies_among}
-use Rattle.stan_model_grammar.specs.Trees.{Tree}
 use Rattle.stan_model_statements.specs.Grammar.{Ends}
 use Rattle.stan_model_statements.specs.Takes.{IsForestOf}
 use Rattle.stan_model_files.specs.Shapes.{Shape, Bodies, no_body, body, expr, forest, inside, depth, bodies_depth, Holds, HoldBodies}
-use Rattle.stan_expr_rules.specs.Parse.{Read, ◌>>=◌}
+use Rattle.stan_expr_rules.specs.Parse.{Read}
 use Rattle.stan_stmt_rules.specs.Parse as parse
 use Rattle.stan_stmt_rules.specs.Parse.{most}
 use Rattle.stan_stmt_parts.specs.Parse.{Putting, read}
