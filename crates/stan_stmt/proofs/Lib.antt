@@ -1,0 +1,3 @@
+pub mod PickLemmas
+pub mod FrontLemmas
+pub mod FileLemmas
