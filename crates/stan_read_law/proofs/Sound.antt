@@ -25,6 +25,10 @@ use Rattle.stan_stmt_law.proofs.Tables.{picked_sort}
 use Rattle.stan_stmt_law.proofs.Words.{some_is, see}
 use Rattle.stan_read_law.proofs.Firsts.{first_stands}
 
+-- a part more behind those that were found before
+behind_found : (found more : List Piece) (p : Piece) (all : List Piece) → all ≡ (found ++ p ∷ []) ++ more → all ≡ found ++ p ∷ more
+behind_found found more p all e = e ∙ append_assoc found (p ∷ []) more
+
 module _ (ts : List Token) (named : Token → Bool) (X Y : Bool → Tree → ℕ → ℕ → Type 0) (behind : ℕ → TokenKind) (exs : AreExpressions ts X Y behind)
     (expression : ℕ → Bool → ℕ → Read Tree) (seen : ℕ → ℕ → TokenKind)
     (sound : (levels : ℕ) (p : Bool) (at : ℕ) (x : Tree × ℕ) → levels ≤ most → expression levels p at ≡ Some x → Y p x.0 at x.1 × (tree_depth x.0 + levels ≤ most))
@@ -146,7 +150,7 @@ module _ (ts : List Token) (named : Token → Bool) (X Y : Bool → Tree → ℕ
           let is = picked_piece s at w.0 a.0 w.1 a.1 in
           let more = many_sound n s (found ++ a.0.0 ∷ []) a.0.1 y u a.2 in (
             a.0.0 ∷ more.0,
-            more.1 ∙ append_assoc found (a.0.0 ∷ []) more.0,
+            behind_found found more.0 a.0.0 y.0 more.1,
             λ xs f to v. put_piece s at a.0 xs (items more.0 f) to is (more.2 xs f to v),
           )
     ]
