@@ -31,7 +31,8 @@ pub struct Printer<'a> {
 }
 
 impl<'a> Printer<'a> {
-    fn put(&mut self, text: &str) {
+    /// Adds a text.
+    pub fn put(&mut self, text: &str) {
         if self.text.push_str(text).is_err() {
             self.is_whole = false;
         }
@@ -44,7 +45,8 @@ impl<'a> Printer<'a> {
         }
     }
 
-    fn put_number(&mut self, number: u32) {
+    /// Adds a number.
+    pub fn put_number(&mut self, number: u32) {
         let alloc = *self.text.allocator();
         match format!(in alloc; "{number}") {
             Ok(text) => self.put(&text),
@@ -52,9 +54,8 @@ impl<'a> Printer<'a> {
         }
     }
 
-    // An operator between two operands, with the line of its token where that isn't the first one.
-    fn sign(&mut self, token: &Token, operator: BinaryOperator) {
-        self.put(binary_mark(operator));
+    /// The line of a token behind `@`, and this text, where it isn't the first line.
+    pub fn line(&mut self, token: &Token, behind: &str) {
         let source = self.source.as_bytes();
         if token.start as usize > source.len() || token.start == u32::MAX {
             self.is_whole = false;
@@ -64,21 +65,37 @@ impl<'a> Printer<'a> {
         if line > 1 {
             self.put("@");
             self.put_number(line);
+            self.put(behind);
         }
     }
 
-    fn token(&mut self, token: &Token) {
+    // An operator between two operands, with the line of its token where that isn't the first one.
+    fn sign(&mut self, token: &Token, operator: BinaryOperator) {
+        self.put(binary_mark(operator));
+        self.line(token, "");
+    }
+
+    /// Adds the bytes of a token.
+    pub fn token(&mut self, token: &Token) {
         self.put_bytes(token.start as usize, token.end as usize);
     }
 
-    fn flag(&mut self, is_set: bool, text: &str) {
+    /// Adds a text where something is so.
+    pub fn flag(&mut self, is_set: bool, text: &str) {
         if is_set {
             self.put(text);
         }
     }
 
-    // Before an item: a `,` where one stands before it.
-    fn item(&mut self) {
+    /// The text is not whole where this does not hold.
+    pub fn check(&mut self, holds: bool) {
+        if !holds {
+            self.is_whole = false;
+        }
+    }
+
+    /// Before an item: a `,` where one stands before it.
+    pub fn item(&mut self) {
         match self.text.as_bytes().last() {
             None | Some(b'(' | b'[' | b'{' | b' ') => {}
             _ => self.put(", "),
@@ -87,12 +104,11 @@ impl<'a> Printer<'a> {
 
     // That a part begins with the first token of the whole.
     fn begins(&mut self, first: &Token, part: &Expr) {
-        if first.start != part.first.start {
-            self.is_whole = false;
-        }
+        self.check(first.start == part.first.start);
     }
 
-    fn declared(&mut self, before: &str, declared: &Option<TypeTree>, behind: &str) {
+    /// Adds a written type between two texts, or nothing.
+    pub fn declared(&mut self, before: &str, declared: &Option<TypeTree>, behind: &str) {
         match declared {
             None => {}
             Some(TypeTree::Nullable(_, name)) => {
@@ -157,6 +173,7 @@ impl<'a> Printer<'a> {
         if self.is_whole { Some(self.text) } else { None }
     }
 
+    /// Adds an expression.
     #[cycle(shown)]
     pub fn expr(&mut self, e: &Expr) {
         match &e.form {
