@@ -1,3 +1,4 @@
 pub mod HeightLemmas
 pub mod WholeLemmas
 pub mod FrontLemmas
+pub mod CommentLemmas
