@@ -1,6 +1,7 @@
-//! Plays rows of files: the tree of each, or the line at which it has none.
+//! Plays rows of files: the tree of each, how deep it is, what its documentation comments belong to, or the line at which it has no tree.
 #![tactic(auto)]
 
+mod owners;
 mod reading;
 mod sources;
 

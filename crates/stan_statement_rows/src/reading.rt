@@ -1,5 +1,6 @@
 //! What is read of a row's text.
 
+use crate::owners::owners;
 use crate::sources::{opened, repeated, whole};
 use stan_base::OutOfMemory;
 use stan_lexer::{code_tokens, lex};
@@ -11,7 +12,7 @@ use stan_stmt_trees::FileTree;
 use std::alloc::Global;
 
 /// The folders of rows.
-pub const FOLDERS: [(&str, Kind); 11] = [
+pub const FOLDERS: [(&str, Kind); 12] = [
     ("plain", Kind::Tree),
     ("compound", Kind::Tree),
     ("declarations", Kind::Tree),
@@ -19,6 +20,7 @@ pub const FOLDERS: [(&str, Kind); 11] = [
     ("tops", Kind::Tree),
     ("bodies", Kind::Tree),
     ("comments", Kind::Tree),
+    ("owners", Kind::Owners),
     ("broken", Kind::Tree),
     ("whole", Kind::Whole),
     ("depths", Kind::Depth),
@@ -31,6 +33,8 @@ pub enum Kind {
     Tree,
     /// The tree of a file.
     Whole,
+    /// What the documentation comments of a file belong to that holds a text behind the opening tag.
+    Owners,
     /// How deep a file is that holds a text behind the opening tag.
     Depth,
     /// How deep a file is in which parts stand many times.
@@ -42,6 +46,7 @@ impl Reading for Kind {
         match self {
             Kind::Tree => tree(alloc, &opened(alloc, text)?),
             Kind::Whole => tree(alloc, &whole(alloc, text)?),
+            Kind::Owners => owned(alloc, &opened(alloc, text)?),
             Kind::Depth => depth(alloc, &opened(alloc, text)?),
             Kind::Deep => depth(alloc, &repeated(alloc, text)?),
         }
@@ -71,11 +76,22 @@ fn tree(alloc: Global, source: &str) -> Result<String, OutOfMemory> {
         Err(line) => broken(alloc, line),
         Ok(tree) => {
             let code = code_tokens(alloc, &tokens)?;
-            match file_text(alloc, source, &code, &tree) {
-                Some(text) => Ok(text),
-                None => Ok(String::from_str(alloc, "not whole")?),
-            }
+            whole_text(alloc, file_text(alloc, source, &code, &tree))
         }
+    }
+}
+
+fn owned(alloc: Global, source: &str) -> Result<String, OutOfMemory> {
+    match read(alloc, source)?.1 {
+        Err(line) => broken(alloc, line),
+        Ok(tree) => whole_text(alloc, owners(alloc, source, &tree)?),
+    }
+}
+
+fn whole_text(alloc: Global, text: Option<String>) -> Result<String, OutOfMemory> {
+    match text {
+        Some(text) => Ok(text),
+        None => Ok(String::from_str(alloc, "not whole")?),
     }
 }
 
