@@ -82,7 +82,8 @@ fn tree(alloc: Global, source: &str) -> Result<String, OutOfMemory> {
 }
 
 fn owned(alloc: Global, source: &str) -> Result<String, OutOfMemory> {
-    match read(alloc, source)?.1 {
+    let (_, found) = read(alloc, source)?;
+    match found {
         Err(line) => broken(alloc, line),
         Ok(tree) => whole_text(alloc, owners(alloc, source, &tree)?),
     }
@@ -96,7 +97,8 @@ fn whole_text(alloc: Global, text: Option<String>) -> Result<String, OutOfMemory
 }
 
 fn depth(alloc: Global, source: &str) -> Result<String, OutOfMemory> {
-    match read(alloc, source)?.1 {
+    let (_, found) = read(alloc, source)?;
+    match found {
         Err(line) => broken(alloc, line),
         Ok(tree) => Ok(format!(in alloc; "{}", tree.depth())?),
     }
