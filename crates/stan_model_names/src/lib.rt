@@ -1,0 +1,2 @@
+//! Which full names a written one means, by the namespace and the aliases that are in force. Definitions alone.
+#![tactic(auto)]
