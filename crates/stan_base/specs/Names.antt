@@ -1,5 +1,5 @@
--- Names as they are resolved and compared (PHP manual, "Name resolution rules": classes and functions without case, constants with it).
-use Rattle.std.specs.Prelude.{ℕ, ◌==◌, if◌then◌else◌, Bool, List, [], ◌∷◌, codes, take, drop, slice_index}
+-- Names as they are compared (PHP manual, "Name resolution rules": classes and functions without case, constants with it).
+use Rattle.std.specs.Prelude.{ℕ, ◌==◌, if◌then◌else◌, Bool, List, [], ◌∷◌, codes, take}
 use Rattle.std.specs.Char.{to_ascii_lowercase}
 use Rattle.std.specs.List.{list_any}
 use Rattle.std.specs.Str.{bytes_eq}
@@ -21,7 +21,3 @@ fold_name kinds.Constant name = fold_namespace name
 -- `namespace\` in any case
 abbrev pub begins_relative : List ℕ → Bool
 begins_relative name = bytes_eq (fold_case (take 10 name)) (codes "namespace\\")
-
--- the full name that a written one means without a namespace and aliases: `\f` and `namespace\f` are `f`
-abbrev pub resolved : List ℕ → List ℕ
-resolved written = if slice_index written 0 == 92 then drop 1 written else (if begins_relative written then drop 10 written else written)

@@ -10,4 +10,4 @@ mod name;
 pub use ask_kind::AskKind;
 pub use line::line_at;
 pub use memory::OutOfMemory;
-pub use name::{Name, begins_relative, resolved};
+pub use name::{Name, begins_relative};

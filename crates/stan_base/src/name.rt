@@ -3,7 +3,6 @@
 ghost use Rattle.std.specs.Prelude.{◌≡◌, ◌↔◌, IsTrue, IfOk};
 ghost use Rattle.stan_base.specs.Name.{name_bytes};
 ghost use Rattle.stan_base.specs.Bytes.{fold_case};
-ghost use Rattle.stan_base.specs.Names.{resolved};
 ghost use Rattle.stan_base.specs.Names.{begins_relative};
 
 use crate::OutOfMemory;
@@ -54,17 +53,4 @@ pub fn begins_relative(name: &[u8]) -> bool
     ensures { result ≡ begins_relative name.now }
 {
     name[..name.len().min(10)].eq_ignore_ascii_case(RELATIVE)
-}
-
-/// The full name that a written one means without a namespace and aliases: `\f` and `namespace\f` are `f`.
-pub fn resolved(written: &[u8]) -> &[u8]
-    ensures { result.now ≡ resolved written.now }
-{
-    if written.first() == Some(&b'\\') {
-        &written[1..]
-    } else if begins_relative(written) {
-        &written[written.len().min(10)..]
-    } else {
-        written
-    }
 }

@@ -1,2 +1,2 @@
-//! Which productions trees of statements and files stand for (`specs`), so which tokens they spell, and what a file is read as.
+//! Which productions trees of statements and files stand for (`specs`), and which tokens they spell.
 #![tactic(auto)]

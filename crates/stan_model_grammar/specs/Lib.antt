@@ -15,6 +15,5 @@ pub mod Expressions
 pub mod Depth
 pub mod Takes
 pub mod Sites
--- ---- files
+-- ---- statements
 pub mod Files
-pub mod Reading

@@ -1,4 +1,4 @@
-//! The language: which tokens a source has, which trees they spell, and what a file is read as (`specs`). Definitions and code share
+//! The language: which tokens a source has, and which trees of expressions they spell (`specs`). Definitions and code share
 //! the kinds of tokens and operators.
 #![tactic(auto)]
 

@@ -11,4 +11,3 @@ pub mod Tops
 pub mod Trees
 pub mod TreeLists
 pub mod Depth
-pub mod Calls

@@ -11,7 +11,8 @@ use Rattle.stan_stmt_parts.specs.Parse.{Piece, piece_of}
 use Rattle.stan_stmt_law.proofs.Expressions.{behind, Picked, picked_within}
 use Rattle.stan_stmt_law.proofs.Inside.{inside}
 use Rattle.stan_stmt_law.proofs.Words.{some_is}
-use Rattle.stan_read_law.specs.Reads.{enough, count, top_read, Ended, AreRead, IsFront, IsLongestFront}
+use Rattle.stan_read_law.specs.Reads.{enough, top_read, AreRead}
+use Rattle.stan_model_readings.specs.Fronts.{count, Ended, IsFront, IsLongestFront}
 use Rattle.stan_read_law.proofs.Readings.{tree_is_read}
 use Rattle.stan_read_law.proofs.Rows.{EndedTops, greedy_of, end_ended, ended_tops, tops_rise, read_are_ended, ended_are_tops}
 

@@ -25,7 +25,8 @@ use Rattle.stan_stmt_law.proofs.Expressions.{behind, are_expressions, sound, who
 use Rattle.stan_stmt_law.proofs.Inside.{kind_within, token_within}
 use Rattle.stan_stmt_law.proofs.Law.{y_sized, y_begun}
 use Rattle.stan_stmt_law.proofs.Runs.{split, rises, inv_mark}
-use Rattle.stan_read_law.specs.Reads.{enough, top_read, Ended}
+use Rattle.stan_read_law.specs.Reads.{enough, top_read}
+use Rattle.stan_model_readings.specs.Fronts.{Ended}
 use Rattle.stan_read_law.proofs.Complete.{Reads, complete, part_there, one_read}
 use Rattle.stan_read_law.proofs.Heights.{height, bodies_height, nests}
 use Rattle.stan_read_law.proofs.Insides.{Greedy, inside_greedy}

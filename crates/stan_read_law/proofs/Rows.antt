@@ -10,7 +10,8 @@ use Rattle.stan_model_files.specs.Shapes.{nil, forest}
 use Rattle.stan_file_law.proofs.Same.{same_top}
 use Rattle.stan_file_law.proofs.Shapes.{same_shape}
 use Rattle.stan_stmt_law.proofs.Front.{unowned_is, is_unowned, begins_quiet, end_quiet, one_greedy, greedy_rises, top_greedy}
-use Rattle.stan_read_law.specs.Reads.{Ended, AreRead}
+use Rattle.stan_read_law.specs.Reads.{AreRead}
+use Rattle.stan_model_readings.specs.Fronts.{Ended}
 use Rattle.stan_read_law.proofs.Insides.{Greedy}
 use Rattle.stan_read_law.proofs.Trees.{read_is_tree}
 

@@ -16,7 +16,8 @@ use Rattle.stan_stmt_bodies.specs.Values.{value_at}
 use Rattle.stan_file_law.proofs.Depths as depths
 use Rattle.stan_stmt_law.proofs.Expressions.{behind, are_expressions, sound, Picked}
 use Rattle.stan_stmt_law.proofs.Front.{greedy_is_tree, unowned_is}
-use Rattle.stan_read_law.specs.Reads.{top_read, Ended}
+use Rattle.stan_read_law.specs.Reads.{top_read}
+use Rattle.stan_model_readings.specs.Fronts.{Ended}
 use Rattle.stan_read_law.proofs.Insides.{Greedy}
 use Rattle.stan_read_law.proofs.Sound.{one_sound, read_sound}
 use Rattle.stan_read_law.proofs.Values.{values_sound}

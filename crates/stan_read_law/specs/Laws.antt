@@ -6,7 +6,8 @@ use Rattle.stan_model_files.specs.Files.{ReadsTop, SpellsFile}
 use Rattle.stan_model_files.specs.Put.{put_top}
 use Rattle.stan_model_files.specs.Shapes.{nil}
 use Rattle.stan_stmt_parts.specs.Parse.{Piece, piece_of}
-use Rattle.stan_read_law.specs.Reads.{enough, top_read, Ended, AreRead, IsLongestFront}
+use Rattle.stan_read_law.specs.Reads.{enough, top_read, AreRead}
+use Rattle.stan_model_readings.specs.Fronts.{Ended, IsLongestFront}
 
 -- What is read, with whatever room, is a tree of files, unless a token follows that goes on with it.
 abbrev pub ReadIsTree : Type 0

@@ -1,13 +1,11 @@
--- What the parser on places reads of declarations and statements in a row, and the longest front of the tokens in trees of files.
-use Rattle.std.specs.Prelude.{◌≡◌, ◌⊎◌, ℕ, ◌+◌, ◌≤◌, Bool, IsFalse, List, length, Some}
+-- What the parser on places reads of declarations and statements in a row.
+use Rattle.std.specs.Prelude.{◌≡◌, ℕ, Bool, List, Some}
 use Rattle.stan_model_grammar.specs.declared.token.Token.{Token}
-use Rattle.stan_model_grammar.specs.Files.{goes_on}
-use Rattle.stan_model_grammar.specs.Strata.{kind_at}
 use Rattle.stan_model_statements.specs.Symbols.{Top}
 use Rattle.stan_model_statements.specs.Trees.{Tops, no_top, top}
-use Rattle.stan_model_files.specs.Files.{ReadsTops, SpellsFile}
 use Rattle.stan_model_files.specs.Put.{put_top}
 use Rattle.stan_model_files.specs.Shapes.{nil}
+use Rattle.stan_model_readings.specs.Fronts.{Ended}
 use Rattle.stan_expr_rules.specs.Parse.{Read}
 use Rattle.stan_stmt_rules.specs.Parse.{behind}
 use Rattle.stan_stmt_parts.specs.Parse.{Piece, piece_of, one, read}
@@ -18,30 +16,12 @@ use Rattle.stan_stmt_bodies.specs.Values.{value_at}
 abbrev pub enough : ℕ
 enough = 1406
 
-abbrev pub count : Tops → ℕ
-count no_top = 0
-count (top x xs) = 1 + count xs
-
 module _ (ts : List Token) (named : Token → Bool) where
   -- the declaration or statement that the parser reads there, with room for so many productions in one another
   abbrev pub top_read : ℕ → ℕ → Read Piece
   top_read room at = one ts named (value_at ts named) (behind ts) (read ts named (value_at ts named) (behind ts) room 0) 0 Top at
 
-  -- No token follows that goes on with it.
-  abbrev pub Ended : ℕ → Type 0
-  Ended to = IsFalse (goes_on (kind_at ts to))
-
   -- They are read one after the other, each ended.
   abbrev pub AreRead : ℕ → Tops → ℕ → ℕ → Type 0
   AreRead room no_top from to = from ≡ to
-  AreRead room (top x xs) from to = (b : ℕ) × (top_read room from ≡ Some (piece_of (put_top x nil), b)) × Ended b × AreRead room xs b to
-
-  -- Trees of files spell the tokens up to a place, and no token follows that goes on with the last.
-  abbrev pub IsFront : Tops → ℕ → Type 0
-  IsFront xs to = ReadsTops ts named xs 0 to × ((xs ≡ no_top) ⊎ Ended to)
-
-  -- No front has more, nor ends later, and all the tokens have a tree only where it ends with them.
-  pub record IsLongestFront (xs : Tops) (to : ℕ) : Type 0 where
-    pub front : IsFront xs to
-    pub longest : (ys : Tops) (end : ℕ) → IsFront ys end → (count ys ≤ count xs) × (end ≤ to)
-    pub whole : (ys : Tops) → SpellsFile ts named ys → to ≡ length ts
+  AreRead room (top x xs) from to = (b : ℕ) × (top_read room from ≡ Some (piece_of (put_top x nil), b)) × Ended ts named b × AreRead room xs b to

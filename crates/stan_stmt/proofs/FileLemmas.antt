@@ -7,11 +7,11 @@ use Rattle.stan_base.specs.Bytes.{line_of}
 use Rattle.stan_model_grammar.specs.declared.token.Token.{Token}
 use Rattle.stan_model_grammar.specs.Tokens.{is_code, code_tokens}
 use Rattle.stan_model_files.specs.Files.{ReadsTops, SpellsFile}
-use Rattle.stan_stmt_bodies.specs.Values.{is_strict_types}
+use Rattle.stan_model_readings.specs.Fronts.{is_strict_types}
 use Rattle.stan_stmt_law.proofs.Inside.{token_within}
 use Rattle.stan_stmt.specs.declared.fronts.Front.{Front}
 use Rattle.stan_stmt.specs.Fronts.{IsFrontOf, tops_of}
-use Rattle.stan_stmt.specs.Answers.{IsBrokenAt}
+use Rattle.stan_model_readings.specs.Reading.{IsBrokenAt}
 
 module _ (source : List ℕ) (tokens code : List Token) (are : code ≡ code_tokens tokens) (f : Front) (front : IsFrontOf source code f) where
   -- no token stands behind it

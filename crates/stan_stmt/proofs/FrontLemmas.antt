@@ -8,13 +8,15 @@ use Rattle.stan_model_files.specs.Shapes.{nil, forest}
 use Rattle.stan_stmt_rules.specs.Ahead.{Next}
 use Rattle.stan_stmt_parts.specs.Gives.{part}
 use Rattle.stan_stmt_parts.specs.declared.depth.Depth.{Depth}
-use Rattle.stan_stmt_bodies.specs.Values.{is_strict_types, leaves_of}
+use Rattle.stan_stmt_bodies.specs.Values.{leaves_of}
+use Rattle.stan_model_readings.specs.Fronts.{is_strict_types}
 use Rattle.stan_stmt_law.proofs.Expressions.{behind, Picked, picked_within}
 use Rattle.stan_stmt_law.proofs.Inside.{inside}
 use Rattle.stan_stmt_trees.specs.Files.{top_of}
 use Rattle.stan_stmt_trees.specs.declared.top.Top.{Top}
 use Rattle.stan_stmt_tops.specs.Views.{top_piece}
-use Rattle.stan_read_law.specs.Reads.{enough, top_read, Ended, AreRead, IsLongestFront}
+use Rattle.stan_read_law.specs.Reads.{enough, top_read, AreRead}
+use Rattle.stan_model_readings.specs.Fronts.{Ended, IsLongestFront}
 use Rattle.stan_read_law.proofs.Trees.{read_is_tree}
 use Rattle.stan_read_law.proofs.Rows.{greedy_of, top_rises}
 use Rattle.stan_read_law.proofs.Fronts.{read_is_longest_front}

@@ -6,14 +6,14 @@ use Rattle.stan_model_grammar.specs.Strata.{kind_at}
 use Rattle.stan_model_statements.specs.Symbols as sorts
 use Rattle.stan_model_statements.specs.TreeLists as lists
 use Rattle.stan_model_statements.specs.Trees.{Tops}
-use Rattle.stan_stmt_bodies.specs.Values.{is_strict_types}
+use Rattle.stan_model_readings.specs.Fronts.{is_strict_types}
 use Rattle.stan_stmt_parts.specs.Gives.{Leaves, part}
 use Rattle.stan_stmt_parts.specs.Parse.{Piece}
 use Rattle.stan_stmt_parts.specs.declared.depth.Depth.{Depth}
 use Rattle.stan_stmt_tops.specs.Views.{top_piece}
 use Rattle.stan_stmt_trees.specs.Files.{top_of}
 use Rattle.stan_stmt_trees.specs.declared.top.Top.{Top}
-use Rattle.stan_read_law.specs.Reads.{IsLongestFront}
+use Rattle.stan_model_readings.specs.Fronts.{IsLongestFront}
 use Rattle.stan_stmt.specs.declared.fronts.Front.{Front}
 
 -- What is read there, with no token behind it that goes on with it, or that there is no such thing.

@@ -1,9 +1,8 @@
 -- What is read of an expression: its tree, and what stands between the braces of its closures, from left to right.
-use Rattle.std.specs.Prelude.{ℕ, zero, suc, ◌+◌, ◌==◌, nat_le, if◌then◌else◌, Bool, List, [], ◌∷◌, Option, Some, None, codes, slice_range}
-use Rattle.std.specs.Str.{bytes_eq}
-use Rattle.stan_base.specs.Bytes.{fold_case}
+use Rattle.std.specs.Prelude.{ℕ, zero, suc, ◌+◌, ◌==◌, nat_le, if◌then◌else◌, Bool, List, [], ◌∷◌, Option, Some, None}
 use Rattle.stan_model_grammar.specs.declared.token.Token.{Token}
 use Rattle.stan_model_grammar.specs.Sites.{HeldBody, sites, bodies_among}
+use Rattle.stan_model_readings.specs.Fronts.{is_strict_types}
 use Rattle.stan_expr_rules.specs.Parse.{Read, ◌>>=◌}
 use Rattle.stan_model_files.specs.Shapes.{Shape, expr, Bodies, no_body, body, inside}
 use Rattle.stan_stmt_rules.specs.Parse.{expression, behind, most}
@@ -43,10 +42,6 @@ module _ (ts : List Token) (named : Token → Bool) where
   -- which is no more often than there is room.
   unfoldable pub value_at : ℕ → ℕ → Bool → ℕ → Read Putting
   value_at room levels pattern at = nested (suc room) room levels pattern at
-
--- the word `strict_types`, without case
-abbrev pub is_strict_types : List ℕ → Token → Bool
-is_strict_types source t = bytes_eq (fold_case (slice_range source t.start t.end)) (codes "strict_types")
 
 -- what the parser of a source reads
 abbrev pub leaves_of : List ℕ → Leaves

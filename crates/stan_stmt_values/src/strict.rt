@@ -1,7 +1,7 @@
 //! The word `strict_types`.
 
 ghost use Rattle.std.specs.Prelude.{◌≡◌, slice_range};
-ghost use Rattle.stan_stmt_bodies.specs.Values.{is_strict_types};
+ghost use Rattle.stan_model_readings.specs.Fronts.{is_strict_types};
 
 use stan_model_grammar::token::Token;
 

@@ -2,7 +2,7 @@ use Rattle.std.proofs.Common.{sym, subst}
 use Rattle.stan_places.specs.Gives.{Gives, at}
 use Rattle.stan_stmt_parts.specs.Gives.{putting}
 use Rattle.stan_stmt_bodies.proofs.Unrolled.{value_is}
-use Rattle.stan_stmt_bodies.specs.Values.{is_strict_types}
+use Rattle.stan_model_readings.specs.Fronts.{is_strict_types}
 use Rattle.stan_stmt.proofs.readers.+readers.Goals as goal
 
 pub value-returns : goal.value-returns
