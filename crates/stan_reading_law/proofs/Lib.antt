@@ -1,0 +1,3 @@
+pub mod Fronts
+pub mod Unique
+pub mod Existence
