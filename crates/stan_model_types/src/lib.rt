@@ -1,2 +1,2 @@
-//! What files declare, and how a look-up by name is answered (`specs`).
+//! Types as plain data: their bytes, limits, normal form, tests and texts (`specs`).
 #![tactic(auto)]

@@ -1,6 +1,6 @@
 -- What an index shows.
 use Rattle.std.specs.Prelude.{List, map}
-use Rattle.stan_model_types.specs.Table as model
+use Rattle.stan_model_table.specs.Table as model
 use Rattle.stan_table.specs.Table.{node_of}
 use Rattle.stan_table.specs.declared.index.Index.{Index}
 

@@ -41,7 +41,7 @@ impl Ask {
 }
 
 // The form in which names of the kind are compared.
-fn fold(alloc: Global, kind: AskKind, name: &[u8]) -> Result<Vec<u8>, OutOfMemory>
+pub(crate) fn fold(alloc: Global, kind: AskKind, name: &[u8]) -> Result<Vec<u8>, OutOfMemory>
     ensures { IfOk result (λ folded. folded.items ≡ fold_name kind name.now) }
 {
     match kind {

@@ -2,23 +2,29 @@
 
 ghost use Rattle.std.specs.Prelude.{◌≡◌, ◌<◌, ◌^◌, IfOk, map, length, Some, slice_get, vec_len};
 ghost use Rattle.stan_base.specs.Name.{name_bytes};
-ghost use Rattle.stan_model_types.specs.Table.{answer_of};
+ghost use Rattle.stan_base.specs.declared.ask_kind.AskKind.TheVariants as kinds;
+ghost use Rattle.stan_model_table.specs.Table.{answer_of};
 ghost use Rattle.stan_table.specs.Table.{node_of};
-ghost use Rattle.stan_table.specs.Places.{AnswerFunctions};
+ghost use Rattle.stan_table.specs.Places.{Answers};
 
+use crate::ask::fold;
 use crate::{Ask, Exported};
 use stan_base::{AskKind, OutOfMemory};
 use std::alloc::Global;
 use std::collections::BTreeMap;
 
-/// The nodes of all files in the order of the files (`index_table`), with the first place of each name. There are fewer
-/// than 2^32.
+/// The nodes of all files in the order of the files (`index_table`), with the first place of each name of a kind. There
+/// are fewer than 2^32.
 #[derive(Drop)]
 pub struct Index {
     nodes: Vec<Exported>,
+    classes: BTreeMap<Vec<u8>, u32>,
     functions: BTreeMap<Vec<u8>, u32>,
+    constants: BTreeMap<Vec<u8>, u32>,
     ghost few: { vec_len nodes < 2 ^ 32 },
-    ghost answers: { AnswerFunctions functions (map node_of nodes.items) },
+    ghost class_answers: { Answers kinds.Class classes (map node_of nodes.items) },
+    ghost function_answers: { Answers kinds.Function functions (map node_of nodes.items) },
+    ghost constant_answers: { Answers kinds.Constant constants (map node_of nodes.items) },
 }
 
 impl Index {
@@ -29,17 +35,32 @@ impl Index {
         requires { vec_len nodes < 2 ^ 32 }
         ensures { IfOk result (λ index. index_table index ≡ map node_of nodes.items) }
     {
-        let functions = first_places(alloc, nodes.as_slice())?;
-        Ok(Index { nodes, functions })
+        let classes = first_places(alloc, AskKind::Class, nodes.as_slice())?;
+        let functions = first_places(alloc, AskKind::Function, nodes.as_slice())?;
+        let constants = first_places(alloc, AskKind::Constant, nodes.as_slice())?;
+        Ok(Index {
+            nodes,
+            classes,
+            functions,
+            constants,
+        })
     }
 
     /// The place of the first node of that kind and name.
     pub fn find(&self, ask: &Ask) -> Option<u32>
         ensures { result ≡ answer_of (index_table self.now) ask.now.kind (name_bytes ask.now.name) }
     {
-        match ask.kind {
-            AskKind::Function => self.functions.get(ask.name.bytes()).copied(),
-            AskKind::Class | AskKind::Constant => None,
+        self.places(ask.kind).get(ask.name.bytes()).copied()
+    }
+
+    // The first places of the names of the kind.
+    fn places(&self, kind: AskKind) -> &BTreeMap<Vec<u8>, u32>
+        ensures { Answers kind result.now (index_table self.now) }
+    {
+        match kind {
+            AskKind::Class => &self.classes,
+            AskKind::Function => &self.functions,
+            AskKind::Constant => &self.constants,
         }
     }
 
@@ -59,16 +80,22 @@ impl Index {
     }
 }
 
-// The place of the first function of each folded name.
-fn first_places(alloc: Global, nodes: &[Exported]) -> Result<BTreeMap<Vec<u8>, u32>, OutOfMemory>
+// The place of the first node of the kind with each folded name.
+fn first_places(
+    alloc: Global,
+    kind: AskKind,
+    nodes: &[Exported],
+) -> Result<BTreeMap<Vec<u8>, u32>, OutOfMemory>
     requires { length nodes.now < 2 ^ 32 }
-    ensures { IfOk result (λ places. AnswerFunctions places (map node_of nodes.now)) }
+    ensures { IfOk result (λ places. Answers kind places (map node_of nodes.now)) }
 {
     let mut places = BTreeMap::new(alloc);
     for (place, node) in nodes.iter().enumerate() {
-        let folded = node.name().bytes().to_ascii_lowercase(alloc)?;
-        if !places.contains_key(folded.as_slice()) {
-            places.insert(folded, place as u32)?;
+        if node.kind() == kind {
+            let folded = fold(alloc, kind, node.name().bytes())?;
+            if !places.contains_key(folded.as_slice()) {
+                places.insert(folded, place as u32)?;
+            }
         }
     }
     Ok(places)

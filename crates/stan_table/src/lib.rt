@@ -7,6 +7,6 @@ mod index;
 mod source;
 
 pub use ask::Ask;
-pub use exported::{Exported, FunctionNode};
+pub use exported::{ClassNode, ConstantNode, Exported, FunctionNode};
 pub use index::Index;
 pub use source::Source;

@@ -1,0 +1,2 @@
+//! What files declare, and what a table of declarations answers (`specs`).
+#![tactic(auto)]
