@@ -101,6 +101,20 @@ impl Names {
         })
     }
 
+    /// The namespace, without bytes if it is the global one.
+    pub fn namespace(&self) -> &[u8]
+        ensures { result.now ≡ (scope_of self.now).namespace }
+    {
+        self.namespace.as_slice()
+    }
+
+    /// The full name of what is declared there by this name. Only memory can be wanting.
+    pub fn declared(&self, alloc: Global, name: &[u8]) -> Result<Name, OutOfMemory>
+        ensures { IfOk result (λ full. name_bytes full ≡ model.within (scope_of self.now).namespace name.now) }
+    {
+        within(alloc, &self.namespace, name)
+    }
+
     /// Puts one use at the end. Where memory is wanting the uses stay as they were.
     pub fn add(
         &mut self,

@@ -1,0 +1,5 @@
+-- ---- nodes
+pub mod Nodes
+pub mod Findings
+-- ---- names
+pub mod Scopes

@@ -1,0 +1,2 @@
+pub mod LastPart
+pub mod UseLemmas
