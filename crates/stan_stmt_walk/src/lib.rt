@@ -1,0 +1,7 @@
+//! The names of functions and constants in statements, from left to right.
+#![tactic(auto)]
+
+mod own;
+mod walk;
+
+pub use walk::findings;
