@@ -1,12 +1,4 @@
-pub mod ExistenceLemmas
-pub mod ExportLemmas
+pub mod FactLemmas
 pub mod FaultLemmas
 pub mod FeedLemmas
-pub mod FrontLemmas
-pub mod GrammarLemmas
-pub mod NamesWithin
-pub mod ParserLemmas
-pub mod ReadingLemmas
-pub mod ReadingSteps
-pub mod Starts
 pub mod TokenCount

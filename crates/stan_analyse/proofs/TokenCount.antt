@@ -1,13 +1,11 @@
 -- A source has no more tokens than bytes, but for the one of an empty source.
 use Rattle.std.proofs.Common.{◌≡◌, ℕ, ◌+◌, ◌-◌, ◌<◌, ◌≤◌, zero, suc, List, [], ◌∷◌, ◌++◌, length, take, Some, None, Option, Bool, true, false, cond, sym, subst, arith}
 use Rattle.std.specs.Prelude.{MatchBool, ◌==◌, not, slice_get}
-use Rattle.std.specs.List.{filter}
 use Rattle.stan_model_grammar.specs.declared.token.Opening.{Opening}
 use Rattle.stan_model_grammar.specs.declared.token.Token.{Token}
 use Rattle.stan_model_grammar.specs.declared.token.TokenKind.{TokenKind}
 use Rattle.stan_model_grammar.specs.declared.token.TokenKind.TheVariants as kinds
-use Rattle.stan_model_grammar.specs.Tokens.{top, open_behind, is_bad, is_comment, is_attribute_start, is_attribute_end, renamed, as_kind, spanning, is_code, AreLexemes, joined, open_texts, IsOpenText, IsCut, has_opening, opening_start, AreTokens}
-use Rattle.stan_model_grammar.specs.Reading.{AreCode}
+use Rattle.stan_model_grammar.specs.Tokens.{top, open_behind, is_bad, is_comment, is_attribute_start, is_attribute_end, renamed, as_kind, spanning, AreLexemes, joined, open_texts, IsOpenText, IsCut, has_opening, opening_start, AreTokens}
 use Rattle.stan_lexer.proofs.OrderLemmas.{next_start_rises}
 
 abbrev IsFew : ℕ → List Token → Type 0
@@ -16,14 +14,6 @@ IsFew limit ts = length ts ≤ limit
 one_of_two : (limit : ℕ) (b : Bool) (ts us : List Token) → IsFew limit ts → IsFew limit us → IsFew limit (cond b ts us)
 one_of_two limit true ts us v w = v
 one_of_two limit false ts us v w = w
-
-kept_few : {X : Type 0} (b : Bool) (x : X) (xs : List X) → length (cond b (x ∷ xs) xs) ≤ 1 + length xs
-kept_few true x xs = omega arith
-kept_few false x xs = omega arith
-
-filter_few : {X : Type 0} (p : X → Bool) (xs : List X) → length (filter p xs) ≤ length xs
-filter_few p [] = omega arith
-filter_few p (x ∷ xs) = omega (arith, kept_few (p x) x (filter p xs), filter_few p xs)
 
 -- ---- lexemes
 
@@ -85,9 +75,5 @@ module _ (source : List ℕ) where
       (omega (arith, joined_few kinds.End None v.0, lexemes_few source [] (opening_start source + 5) v.0 v.1)) v.2
   tokens_by false none ts few v = subst (IsFew (length source + 1)) (sym v) few
 
-  tokens_few : (ts : List Token) → AreTokens source ts → IsFew (length source + 1) ts
+  pub tokens_few : (ts : List Token) → AreTokens source ts → IsFew (length source + 1) ts
   tokens_few ts v = tokens_by (has_opening source) (record { kind = kinds.Bad; start = 0; end = 0 } ∷ []) ts (omega arith) v
-
-pub code_few : (source : List ℕ) (ts : List Token) → AreCode source ts → length ts ≤ length source + 1
-code_few source ts v =
-    subst (IsFew (length source + 1)) (sym v.2) (omega (arith, filter_few (λ (t : Token). is_code t.kind) v.0, tokens_few source v.0 v.1))

@@ -1,15 +1,21 @@
--- The faults of calls, in the order in which the calls are listed.
-use Rattle.std.specs.Prelude.{ℕ, if◌then◌else◌, List, Option, Some, None, map, filter, is_none}
-use Rattle.stan_base.specs.declared.ask_kind.AskKind.TheVariants as kinds
-use Rattle.stan_model_grammar.specs.declared.token.Token.{Token}
-use Rattle.stan_model_types.specs.Table.{Exported, answer_of}
-use Rattle.stan_model_facts.specs.Facts.{CallFact, fact_of_call}
+-- The faults of parts of a file, in the order in which they are found.
+use Rattle.std.specs.Prelude.{ℕ, List}
+use Rattle.std.specs.List.{flat_map}
+use Rattle.stan_model_facts.specs.Facts.{fact_of_found}
+use Rattle.stan_model_names.specs.Resolve.{Scope}
+use Rattle.stan_model_statements.specs.Trees.{Statement, Tops}
+use Rattle.stan_model_table.specs.Table.{Exported}
 use Rattle.stan_model_verdict.specs.Fault.{Fault}
-use Rattle.stan_model_verdict.specs.FunctionNotFound.{function_not_found}
+use Rattle.stan_model_verdict.specs.Faults.{faults_of_fact}
+use Rattle.stan_model_walk.specs.Findings.{Found, findings}
+use Rattle.stan_model_walk.specs.Scopes.{outside, in_tops}
 
--- the fault of a call, if the table lacks its function
-abbrev pub fact_fault : List Exported → CallFact → Option Fault
-fact_fault table fact = if is_none (answer_of table kinds.Function fact.name) then Some (function_not_found fact) else None
+module _ (table : List Exported) (source : List ℕ) where
+  abbrev pub faults_of_found : Scope → Found → List Fault
+  faults_of_found scope f = flat_map (faults_of_fact table) (fact_of_found source scope f)
 
-abbrev pub call_faults : List Exported → List ℕ → List Token → List Fault
-call_faults table source calls = map function_not_found (filter (λ fact. is_none (answer_of table kinds.Function fact.name)) (map (fact_of_call source) calls))
+  abbrev pub faults_of_statement : Scope → Statement → List Fault
+  faults_of_statement scope s = flat_map (faults_of_found scope) (findings s)
+
+  abbrev pub faults_of_tops : Tops → List Fault
+  faults_of_tops tops = in_tops faults_of_statement source outside tops

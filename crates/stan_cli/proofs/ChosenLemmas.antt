@@ -7,12 +7,11 @@ use Rattle.std.specs.Cmp.Lexicographic.{slice_cmp, nat_list_cmp_total}
 use Rattle.std.specs.List.{Contains, list_any}
 use Rattle.std.specs.List.Sorted.{IsStrictlySortedBy}
 use Rattle.std.specs.FinMap as finite
-use Rattle.std.specs.FinMap.{IsAntisymmetric, nat_cmp-IsAntisymmetric, slice_cmp-IsAntisymmetric}
 use Rattle.std.specs.FinMap.Entries.{where_key, is_sorted-where_key}
 use Rattle.std.proofs.lemmas.List.Elements.{filter_agree}
 use Rattle.std.proofs.lemmas.List.Folds.{Any-from_list_any, list_any-from_Any}
 use Rattle.stan_base.proofs.Orders.{same_test, IsStrictlySortedBy-keys, strictly_sorted_unique, Contains-where_key}
-use Rattle.stan_model_grammar.specs.Reading.{largest_source}
+use Rattle.stan_model_readings.specs.Reading.{largest_source}
 use Rattle.stan_outside.specs.Contents.{Contents}
 use Rattle.stan_paths.specs.Paths.{normal_path}
 use Rattle.stan_paths.proofs.ListLemmas.{path_cmp-IsAntisymmetric}

@@ -9,7 +9,7 @@ use Rattle.std.specs.Cmp.{IsTotalOrder, eq_by_cmp_equiv}
 use Rattle.std.specs.Cmp.Lexicographic.{slice_cmp, nat_list_cmp_total}
 use Rattle.std.specs.FinMap as finite
 use Rattle.std.specs.FinMap.Entries.{find, below_all, is_sorted}
-use Rattle.stan_model_grammar.specs.Reading.{largest_source}
+use Rattle.stan_model_readings.specs.Reading.{largest_source}
 use Rattle.stan_outside.specs.Contents.{Contents}
 use Rattle.stan_paths.specs.Paths.{normal_path}
 use Rattle.stan_cli.specs.Project.{is_chosen, chosen_files, paths_of, sources_of}

@@ -4,15 +4,15 @@ use Rattle.std.specs.List.{sum_by}
 use Rattle.std.proofs.lemmas.List.{take_more, append-nil}
 use Rattle.std.proofs.lemmas.Bool.{ltb-false}
 use Rattle.std.proofs.lemmas.List.Sums.{sum_by-cons}
-use Rattle.stan_model_grammar.specs.Reading.{Reading, IsReading, AreReadings}
+use Rattle.stan_model_readings.specs.Reading.{Reading, IsReading, AreReadings}
 use Rattle.stan_model_relations.specs.Exports.{exports_of, table_of}
-use Rattle.stan_model_types.specs.Table.{Exported}
+use Rattle.stan_model_table.specs.Table.{Exported}
 use Rattle.stan_model_verdict.specs.Fault.{Fault}
 use Rattle.stan_model_verdict.specs.Faults.{faults_of}
 use Rattle.stan_cli.specs.Project.{most_bytes, excess_from, sources_of}
-use Rattle.stan_analyse.proofs.ReadingLemmas.{one_readings}
+use Rattle.stan_reading_law.proofs.Unique.{one_readings}
 use Rattle.stan_cli.specs.Raw.{raw_text}
-use Rattle.stan_cli.specs.Report.{IsReport, IsTable, AreJudged, judged, status_of}
+use Rattle.stan_cli.specs.Report.{IsReport, IsTable, AreJudged, judged, run_level, status_of}
 
 -- ---- one more
 
@@ -28,11 +28,11 @@ table_of-push [] (x ∷ rs) s r h = absurd h
 table_of-push (x ∷ ss) [] s r h = absurd h
 table_of-push (x ∷ ss) (y ∷ rs) s r h = ap (λ rest. exports_of x y ++ rest) (table_of-push ss rs s r h.1) ∙ sym (append_assoc (exports_of x y) (table_of ss rs) (exports_of s r))
 
-judged-push : (table : List Exported) (files : List (List ℕ × List ℕ)) (rs : List Reading) (file : List ℕ × List ℕ) (r : Reading) → AreReadings (sources_of files) rs → judged table (files ++ file ∷ []) (rs ++ r ∷ []) ≡ judged table files rs ++ (file.0, faults_of table file.1 r) ∷ []
+judged-push : (table : List Exported) (files : List (List ℕ × List ℕ)) (rs : List Reading) (file : List ℕ × List ℕ) (r : Reading) → AreReadings (sources_of files) rs → judged table (files ++ file ∷ []) (rs ++ r ∷ []) ≡ judged table files rs ++ (file.0, faults_of table file.1 run_level r) ∷ []
 judged-push table [] [] file r h = refl
 judged-push table [] (x ∷ rs) file r h = absurd h
 judged-push table (f ∷ files) [] file r h = absurd h
-judged-push table (f ∷ files) (x ∷ rs) file r h = ap (λ rest. (f.0, faults_of table f.1 x) ∷ rest) (judged-push table files rs file r h.1)
+judged-push table (f ∷ files) (x ∷ rs) file r h = ap (λ rest. (f.0, faults_of table f.1 run_level x) ∷ rest) (judged-push table files rs file r h.1)
 
 sources_of-push : (files : List (List ℕ × List ℕ)) (file : List ℕ × List ℕ) → sources_of (files ++ file ∷ []) ≡ sources_of files ++ file.1 ∷ []
 sources_of-push [] file = refl
@@ -49,7 +49,7 @@ IsTable-more ss i d s table nodes lt at so_far new =
     )
 
 pub AreJudged-more : (table : List Exported) (files : List (List ℕ × List ℕ)) (i : ℕ) (d file : List ℕ × List ℕ) (faults : List (List ℕ × List Fault)) (fault : List ℕ × List Fault) → i < length files → file ≡ get_or files i d → AreJudged table (take i files) faults
-    → ((r : Reading) × IsReading file.1 r × (fault ≡ (file.0, faults_of table file.1 r))) → AreJudged table (take (i + 1) files) (faults ++ fault ∷ [])
+    → ((r : Reading) × IsReading file.1 r × (fault ≡ (file.0, faults_of table file.1 run_level r))) → AreJudged table (take (i + 1) files) (faults ++ fault ∷ [])
 AreJudged-more table files i d file faults fault lt at so_far new =
     let more : take (i + 1) files ≡ take i files ++ file ∷ [] = take_more files i d lt ∙ ap (λ x. take i files ++ x ∷ []) (sym at) in (
       so_far.0 ++ new.0 ∷ [],

@@ -4,7 +4,7 @@ use Rattle.std.proofs.Common.{◌-◌, drop, map, length-drop}
 use Rattle.std.specs.List.{zip}
 use Rattle.std.proofs.lemmas.List.{length-map, take_all, drop-map}
 use Rattle.std.proofs.lemmas.Slice.Zip.{length-zip, seconds-zip}
-use Rattle.stan_analyse.proofs.ReadingLemmas.{one_readings}
+use Rattle.stan_reading_law.proofs.Unique.{one_readings}
 use Rattle.stan_cli.specs.Raw.{raw_text}
 use Rattle.stan_cli.specs.Report.{IsReport, faults_of_project}
 use Rattle.stan_outside.specs.Contents.{Contents}

@@ -3,7 +3,7 @@ use Rattle.std.specs.Prelude.{ℕ, ◌+◌, ◌==◌, ◌&&◌, ◌||◌, nat_lt
 use Rattle.std.specs.List.{starts_with, ends_with, list_any}
 use Rattle.std.specs.FinMap as finite
 use Rattle.std.specs.Str.{bytes_eq}
-use Rattle.stan_model_grammar.specs.Reading.{largest_source}
+use Rattle.stan_model_readings.specs.Reading.{largest_source}
 use Rattle.stan_outside.specs.Contents.{Contents, parts_of}
 use Rattle.stan_paths.specs.Paths.{normal_path}
 

@@ -1,19 +1,23 @@
 -- The report of a project: each file is judged over the table of all.
 use Rattle.std.specs.Prelude.{◌≡◌, ℕ, ◌==◌, not, if◌then◌else◌, List, [], ◌∷◌, length}
 use Rattle.std.specs.List.{list_any}
-use Rattle.stan_model_grammar.specs.Reading.{Reading, AreReadings}
+use Rattle.stan_model_readings.specs.Reading.{Reading, AreReadings}
 use Rattle.stan_model_relations.specs.Exports.{table_of}
-use Rattle.stan_model_types.specs.Table.{Exported}
+use Rattle.stan_model_table.specs.Table.{Exported}
 use Rattle.stan_model_verdict.specs.Fault.{Fault}
 use Rattle.stan_model_verdict.specs.Faults.{faults_of}
 use Rattle.stan_cli.specs.Project.{sources_of}
 use Rattle.stan_cli.specs.Raw.{raw_text}
 
+-- the level of all runs
+abbrev pub run_level : ℕ
+run_level = 0
+
 -- each path with the faults of its source over a table
 abbrev pub judged : List Exported → List (List ℕ × List ℕ) → List Reading → List (List ℕ × List Fault)
 judged table [] readings = []
 judged table (file ∷ files) [] = []
-judged table (file ∷ files) (reading ∷ readings) = (file.0, faults_of table file.1 reading) ∷ judged table files readings
+judged table (file ∷ files) (reading ∷ readings) = (file.0, faults_of table file.1 run_level reading) ∷ judged table files readings
 
 -- 1 where a file has a fault, else 0
 abbrev pub status_of : List (List ℕ × List Fault) → ℕ

@@ -4,7 +4,7 @@ use Rattle.std.specs.List.{Contains}
 use Rattle.std.specs.FinMap as finite
 use Rattle.std.specs.declared.sync.Arc.{Arc}
 use Rattle.std.specs.declared.alloc.Global.{Global}
-use Rattle.stan_model_grammar.specs.Reading.{largest_source}
+use Rattle.stan_model_readings.specs.Reading.{largest_source}
 use Rattle.stan_outside.specs.Contents.{Contents}
 use Rattle.stan_cli.specs.Project.{most_files, excess_from, reads_until}
 use Rattle.stan_cli.specs.Seen.{SeenTree}

@@ -17,7 +17,7 @@ use stan_table::{Index, Source};
 use std::alloc::Global;
 use std::sync::Arc;
 
-/// The level of all runs so far.
+/// The level of all runs.
 const LEVEL: u8 = 0;
 
 /// The text of a report, and the status that goes with it.

@@ -3,7 +3,7 @@
 ghost use Rattle.std.specs.Prelude.{◌≡◌, ◌≤◌, ◌<◌, ◌+◌, map, length, string_bytes, None, IfOk, IfErr, IsSome};
 ghost use Rattle.std.specs.FinMap as finite;
 ghost use Rattle.stan_cli.specs.Project.{chosen_files, paths_of, most_files, excess_from};
-ghost use Rattle.stan_model_grammar.specs.Reading.{largest_source};
+ghost use Rattle.stan_model_readings.specs.Reading.{largest_source};
 ghost use Rattle.stan_outside.specs.Outside.{RoseBy};
 ghost use Rattle.stan_cli.specs.Seen.{seen_tree};
 ghost use Rattle.stan_cli.specs.Sources.{source_bytes, source_at, AreHeld, KeepsTree, IsTreeRefusal, IsListRefusal, IsReadRefusal};

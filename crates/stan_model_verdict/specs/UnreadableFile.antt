@@ -1,6 +1,6 @@
 -- Rule 0: the file cannot be read. It comes once, for the first reason that there is.
 use Rattle.std.specs.Prelude.{ℕ, List, [], ◌∷◌, codes}
-use Rattle.stan_model_grammar.specs.Reading.{Reading, Readable, TooLarge, NotUtf8, Broken}
+use Rattle.stan_model_readings.specs.Reading.{Reading, Readable, TooLarge, NotUtf8, Broken}
 use Rattle.stan_model_verdict.specs.Fault.{Fault}
 
 abbrev pub too_large : List ℕ

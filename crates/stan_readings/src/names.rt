@@ -1,6 +1,7 @@
 //! What is read of lines and names, and what an index answers, as text.
 
-use stan_base::{AskKind, Name, OutOfMemory, line_at, resolved};
+use stan_base::{AskKind, Name, OutOfMemory, line_at};
+use stan_names::Names;
 use stan_rows::{number, parts, plain, text_of, words};
 use stan_table::{Ask, Exported, FunctionNode, Index};
 use std::alloc::Global;
@@ -29,9 +30,11 @@ pub fn folds(alloc: Global, text: &str) -> Result<String, OutOfMemory> {
     Ok(String::from_str(alloc, told)?)
 }
 
-/// The full name that a written one means.
+/// The full name that a written one means outside all namespaces.
 pub fn resolved_name(alloc: Global, text: &str) -> Result<String, OutOfMemory> {
-    text_of(alloc, resolved(text.as_bytes()))
+    let names = Names::new(alloc, b"")?;
+    let name = names.class(alloc, text.as_bytes())?;
+    text_of(alloc, name.bytes())
 }
 
 fn kind_of(word: &str) -> AskKind {

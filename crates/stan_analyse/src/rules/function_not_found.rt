@@ -1,15 +1,19 @@
 //! Rule 1: a function is called by a name that no file declares.
 
 ghost use Rattle.std.specs.Prelude.{◌≡◌, ◌++◌, IfOk, codes, option_map, string_bytes};
+ghost use Rattle.std.specs.Option.{option_to_list};
+ghost use Rattle.stan_model_verdict.specs.FunctionNotFound as model;
 ghost use Rattle.stan_model_verdict.specs.Fault.{shown};
 ghost use Rattle.stan_analyst.specs.Verdict.{fault_of};
 ghost use Rattle.stan_table.specs.Index.{index_table};
-ghost use Rattle.stan_analyse.specs.Faults.{fact_fault};
+ghost use Rattle.stan_analyse.specs.Facts.{fact_of, name_fact_of};
 
+use crate::facts::{Fact, NameFact};
+use crate::rules::missing::{is_missing, missing_name};
 use bstr::ByteSlice;
 use stan_analyst::Fault;
-use stan_base::{AskKind, Name, OutOfMemory};
-use stan_table::{Ask, Index};
+use stan_base::{AskKind, OutOfMemory};
+use stan_table::Index;
 use std::alloc::Global;
 
 /// The number of the rule.
@@ -18,25 +22,31 @@ pub const NUMBER: u16 = 1;
 /// The level from which on it comes, 0 to 9.
 pub const LEVEL: u8 = 0;
 
-/// The fault of a call by this full name on this line, if the table lacks the function.
-pub fn judge(
-    alloc: Global,
-    name: &[u8],
-    line: u32,
-    index: &Index,
-) -> Result<Option<Fault>, OutOfMemory>
-    ensures { IfOk result (λ fault. option_map fault_of fault ≡ fact_fault (index_table index.now) (record { line = line; name = name.now })) }
+/// The fault of a call, if the table lacks it.
+pub fn judge(alloc: Global, fact: &Fact, index: &Index) -> Result<Option<Fault>, OutOfMemory>
+    ensures { IfOk result (λ fault. option_to_list (option_map fault_of fault) ≡ model.functions_not_found (index_table index.now) (fact_of fact.now)) }
 {
-    let ask = Ask::new(alloc, AskKind::Function, &Name::new(alloc, name)?)?;
-    if index.find(&ask).is_some() {
-        return Ok(None);
+    match fact {
+        Fact::Call(name) => {
+            if is_missing(alloc, AskKind::Function, name, index)? {
+                Ok(Some(fault(alloc, name)?))
+            } else {
+                Ok(None)
+            }
+        }
+        Fact::Constant(_) => Ok(None),
     }
-    let text = text(alloc, name)?;
-    Ok(Some(Fault {
-        line,
+}
+
+fn fault(alloc: Global, fact: &NameFact) -> Result<Fault, OutOfMemory>
+    ensures { IfOk result (λ fault. fault_of fault ≡ model.function_not_found (name_fact_of fact.now)) }
+{
+    let text = text(alloc, missing_name(fact))?;
+    Ok(Fault {
+        line: fact.line,
         rule: NUMBER,
         text,
-    }))
+    })
 }
 
 fn text(alloc: Global, name: &[u8]) -> Result<String, OutOfMemory>
